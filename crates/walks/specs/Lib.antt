@@ -1,0 +1,11 @@
+pub mod Choices
+pub mod Rows
+pub mod Heights
+pub mod Flow
+pub mod Order
+pub mod Visits
+pub mod Meet
+pub mod Effects
+pub mod Fits
+pub mod Bounds
+pub mod Loop

@@ -1,0 +1,76 @@
+-- Runs that serve the blocks in any order, and the run of document 01 as one of them: all that finish hold the same table.
+use mathlib.Core.Path.{_≡_, refl, sym, _∙_, ap, subst}
+use mathlib.Core.Logic.{_⊎_, inl, inr}
+use mathlib.Core.List.{List, [], _∷_, _++_}
+use mathlib.Core.Option.{Option, none, some}
+use Prim.Native.Nat.{ℕ, suc, zero, _+_}
+use native.Mathlib.Nat.{zero-add, suc-add}
+use Rattle.paper.specs.Runs.{Flow, Run, spread, visit-at, step-at, step, run}
+use Rattle.paper.specs.Walks.{In, here, there}
+use Rattle.walks.specs.Flow.{Laws, Good, visit-good, skip-good, meet-unique, is-meet, reached, unreached}
+
+module _ {A : Type 0} (F : Flow A) where
+  -- Runs from r: at each visit any visited block b is served, its successors in any order, repeated or not; `rest` waits from then
+  -- on: every block that waited but b, in any order, with whatever else.
+  pub data Served (r : Run A) : Run A → Type 0 where
+    begun : Served r r
+    serve : {r₁ : Run A} (b : ℕ) (a : A) (rest ss : List ℕ) → r₁ .table b ≡ some a
+        → ((c : ℕ) → In c (r₁ .queue) → (c ≡ b) ⊎ In c rest)
+        → ((s : ℕ) → In s (F .succs b) → In s ss) → ((s : ℕ) → In s ss → In s (F .succs b))
+        → Served r r₁ → Served r (spread F ss (F .through b a) (record { table = r₁ .table; queue = rest }))
+
+  -- one visit more, and a run that is cut in two
+  pub run-suc : (k : ℕ) (r : Run A) → run F (suc k) r ≡ step F (run F k r)
+  unfolding run
+  run-suc zero r = refl
+  run-suc (suc k) r = run-suc k (step F r)
+
+  pub run-add : (k j : ℕ) (r : Run A) → run F (k + j) r ≡ run F j (run F k r)
+  unfolding run
+  run-add zero j r = rw (zero-add j)
+  run-add (suc k) j r = rw (suc-add k j) (run-add k j (step F r))
+
+  -- at an empty queue nothing changes any more
+  pub run-still : (k : ℕ) (r : Run A) → r .queue ≡ [] → run F k r ≡ r
+  unfolding run step step-at
+  run-still zero r e = refl
+  run-still (suc k) r e = ap (λ (q : List ℕ). run F k (step-at F q r)) e ∙ run-still k r e
+
+  module _ (L : Laws F) where
+    pub served-good : {r r₁ : Run A} → Good F r → Served r r₁ → Good F r₁
+    served-good g begun = g
+    served-good g (serve {r₁} b a rest ss h wait all only s) = visit-good F L r₁ (served-good g s) b rest wait a h ss all only
+
+    step-good : (r : Run A) → Good F r → Good F (step F r)
+    unfolding step step-at visit-at
+    step-good r g = at (r .queue) refl
+      where
+        at : (q : List ℕ) → r .queue ≡ q → Good F (step-at F q r)
+        at [] e = g
+        at (b ∷ q) e = visited (r .table b) refl
+          where
+            wait : (c : ℕ) → In c (r .queue) → (c ≡ b) ⊎ In c q
+            wait c i = go (subst (In c) e i)
+              where
+                go : In c (b ∷ q) → (c ≡ b) ⊎ In c q
+                go (here p) = inl p
+                go (there j) = inr j
+
+            visited : (o : Option A) → r .table b ≡ o → Good F (visit-at F o b (record { table = r .table; queue = q }))
+            visited none h = skip-good F L r g b q wait h
+            visited (some x) h = visit-good F L r g b q wait x h (F .succs b) (λ s i. i) (λ s i. i)
+
+    pub run-good : (k : ℕ) (r : Run A) → Good F r → Good F (run F k r)
+    unfolding run
+    run-good zero r g = g
+    run-good (suc k) r g = run-good k (step F r) (step-good r g)
+
+    -- two finished runs hold the same table
+    pub same-end : (r r₁ : Run A) → Good F r → Good F r₁ → r .queue ≡ [] → r₁ .queue ≡ [] → (b : ℕ) → r .table b ≡ r₁ .table b
+    same-end r r₁ g g₁ e e₁ b = at (r .table b) (r₁ .table b) refl refl
+      where
+        at : (o o₁ : Option A) → r .table b ≡ o → r₁ .table b ≡ o₁ → r .table b ≡ r₁ .table b
+        at none none p q = cc
+        at none (some y) p q = absurd (unreached F L r g e b p (reached F L r₁ g₁ e₁ b y q))
+        at (some x) none p q = absurd (unreached F L r₁ g₁ e₁ b q (reached F L r g e b x p))
+        at (some x) (some y) p q = cc (meet-unique F L b x y (is-meet F L r g e b x p) (is-meet F L r₁ g₁ e₁ b y q))
