@@ -1,8 +1,11 @@
+pub mod Limits
 pub mod Text
 pub mod Sheet
+pub mod Refusals
 pub mod Cells
 pub mod Steps
 pub mod Runs
 pub mod Report
+pub mod Answer
 pub mod Walks
 pub mod Programs

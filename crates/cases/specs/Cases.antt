@@ -1,0 +1,158 @@
+-- Document 01, "Joins, loops and edges to try": its rows as one table, and one theorem that computes every row from the
+-- definitions. A join is a meet of two cells, either way round; a sheet is answered from its own bytes, to the answer's bytes.
+use mathlib.Core.Path.{_≡_, refl}
+use mathlib.Core.Bool.{Bool, true, false, cond}
+use mathlib.Core.List.{List, [], _∷_, _++_, map}
+use Prim.Native.Nat.{ℕ}
+use Prim.Native.Char.{Char, code}
+use Prim.Native.String.{String}
+use Prim.Native.String as Text
+use lib.Dec.{eqb}
+use Rattle.paper.specs.Text.{Bytes, tab, line-feed, virtual}
+use Rattle.paper.specs.Cells.{Cell, absent, unknown, conflicted, named, meet}
+use Rattle.paper.specs.declared.Rule.{Rule}
+use Rattle.paper.specs.declared.Rule.the-variants.{Old, House}
+use Rattle.cases.specs.Computed.{answer-text}
+
+-- a line as document 01 prints it, each gap one tab
+bytes-of : String → Bytes
+bytes-of Text.[] = []
+bytes-of (Text._∷_ c s) = cond (eqb (code c) 32) tab (code c) ∷ bytes-of s
+
+text : List String → Bytes
+text [] = []
+text (l ∷ ls) = bytes-of l ++ (line-feed ∷ text ls)
+
+data Row : Type 0 where
+  join : (rule : Rule) (left right met : Cell) → Row
+  sheet : (rule : Rule) (lines report : List String) → Row
+
+-- what a row shows
+data Shown : Type 0 where
+  cells : Cell → Cell → Shown
+  bytes : Bytes → Shown
+
+computed : Row → Shown
+computed (join rule left right met) = cells (meet rule left right) (meet rule right left)
+computed (sheet rule ls report) = bytes (answer-text rule (text ls))
+
+expected : Row → Shown
+expected (join rule left right met) = cells met met
+expected (sheet rule ls report) = bytes (text report)
+
+abbrev v1 : Bool → Cell
+v1 mark = named (virtual 1) mark
+
+abbrev v2 : Bool → Cell
+v2 mark = named (virtual 2) mark
+
+-- one branch spills v0 to slot 0, the other does nothing; after the join, reload into r1 and use v0 there
+abbrev unfilled-slot : List String
+unfilled-slot = "F 2 1 1 4 0" ∷ "B 1 2" ∷ "O 0 0 1 v0 0" ∷ "B 3" ∷ "S 0 0" ∷ "B 3" ∷ "B" ∷ "L 1 0" ∷ "O 1 1 v0 1 0" ∷ []
+
+-- define v0 in r0, move to r1, define v0 in r0 again, use v0 in r1
+abbrev stale-copy : List String
+stale-copy = "F 2 0 1 1 0" ∷ "B" ∷ "O 0 0 1 v0 0" ∷ "M 1 0" ∷ "O 1 0 1 v0 0" ∷ "O 2 1 v0 1 0" ∷ []
+
+-- `C` on an Unknown slot; then what the slot holds is asked for by another `C` and by a safepoint
+abbrev change-of-unknown : List String
+change-of-unknown = "F 0 1 2 1 0" ∷ "B" ∷ "C 0 0 v0 v1" ∷ "C 1 0 v1 v0" ∷ "P 2 0" ∷ []
+
+-- a safepoint, then a use of a marked name in a register
+abbrev marked-in-register : List String
+marked-in-register = "F 1 0 1 1 0" ∷ "T 0" ∷ "B" ∷ "O 0 0 1 v0 0" ∷ "P 1" ∷ "O 1 1 v0 0 0" ∷ []
+
+-- "Whole example"
+abbrev whole-example : List String
+whole-example = "F 2 1 1 1 0" ∷ "B" ∷ "O 7 0 1 v0 0" ∷ "S 0 0" ∷ "O 8 1 v0 1 0" ∷ []
+
+-- regs 0, blocks 0 to 1 to 2 in a line: old never visits block 1 in the analysis
+abbrev three-in-line : List String
+three-in-line = "F 0 1 3 3 0" ∷ "B 1" ∷ "B 2" ∷ "C 0 0 v0 v1" ∷ "B" ∷ "C 1 0 v1 v2" ∷ []
+
+-- an unreached block whose first step has a use
+abbrev unreached-use : List String
+unreached-use = "F 1 0 1 2 0" ∷ "B" ∷ "B" ∷ "O 0 1 v0 0 0" ∷ []
+
+-- two uses of one step fail, and the step takes effect
+abbrev two-failing-uses : List String
+two-failing-uses = "F 2 0 3 1 0" ∷ "B" ∷ "O 4 2 v0 0 v1 1 1 v2 0" ∷ "O 5 1 v2 0 0" ∷ []
+
+-- missing allocations of uses and of defs, and a fault that no analysis looks for
+abbrev missing-uses : List String
+missing-uses = "F 1 0 4 1 0" ∷ "B" ∷ "O 1 1 v0 0 0" ∷ "O 2 3 v0 - r0 0 v1 - 1 v2 -" ∷ "O 3 0 1 v3 -" ∷ []
+
+abbrev missing-defs : List String
+missing-defs = "F 1 0 4 2 0" ∷ "B 1" ∷ "M 0 0" ∷ "B" ∷ "O 2 1 r0 0 2 v2 - v3 -" ∷ []
+
+-- a loop with a safepoint, accepted by both rules
+abbrev accepted-loop : List String
+accepted-loop = "F 1 1 1 3 0" ∷ "T 0" ∷ "B 1" ∷ "O 0 0 1 v0 0" ∷ "S 0 0" ∷ "B 1 2" ∷ "P 1 0" ∷ "L 0 0" ∷ "O 1 1 v0 0 0" ∷ "B" ∷ "O 2 1 v0 0 0" ∷ []
+
+-- two walks bring different marked names to one safepoint's slot
+abbrev two-names : List String
+two-names = "F 1 1 2 4 0" ∷ "T 0" ∷ "T 1" ∷ "B 1 2" ∷ "B 3" ∷ "O 0 0 1 v0 0" ∷ "S 0 0" ∷ "B 3" ∷ "O 1 0 1 v1 0" ∷ "S 0 0" ∷ "B" ∷ "P 2 0" ∷ []
+
+-- one line behind an `F` and a `B`
+abbrev behind : String → List String
+behind line = "F 2 2 2 1 0" ∷ "B" ∷ line ∷ []
+
+abbrev rows : List Row
+rows =
+    -- joins
+    join House unknown (v1 false) unknown
+    ∷ join Old unknown (v1 false) (v1 false)
+    ∷ join Old (v1 false) (v1 true) (v1 true)
+    ∷ join House (v1 false) (v1 true) (v1 true)
+    ∷ join Old (v1 false) (v2 false) conflicted
+    ∷ join House (v1 false) (v2 false) conflicted
+    ∷ join House unknown conflicted unknown
+    ∷ join Old unknown conflicted conflicted
+    ∷ join Old absent unknown unknown
+    ∷ join Old absent absent absent
+    -- sheets, starred
+    ∷ sheet Old unfilled-slot ("R old 0" ∷ [])
+    ∷ sheet House unfilled-slot ("R house 1" ∷ "E 3 1 1 2 r1 - -" ∷ [])
+    ∷ sheet Old stale-copy ("R old 0" ∷ [])
+    ∷ sheet House stale-copy ("R house 1" ∷ "E 0 3 2 2 r1 - -" ∷ [])
+    ∷ sheet Old change-of-unknown ("R old 2" ∷ "E 0 0 0 4 s0 v0 -" ∷ "E 0 2 2 6 s0 - -" ∷ [])
+    ∷ sheet House change-of-unknown ("R house 3" ∷ "E 0 0 0 4 s0 v0 -" ∷ "E 0 1 1 4 s0 v1 -" ∷ "E 0 2 2 7 s0 - -" ∷ [])
+    ∷ sheet Old marked-in-register ("R old 1" ∷ "E 0 2 1 2 r0 - -" ∷ [])
+    ∷ sheet House marked-in-register ("R house 1" ∷ "E 0 2 1 2 r0 - -" ∷ [])
+    ∷ sheet Old whole-example ("R old 1" ∷ "E 0 2 8 3 r1 v0 r1" ∷ [])
+    ∷ sheet House whole-example ("R house 1" ∷ "E 0 2 8 3 r1 v0 r1" ∷ [])
+    -- sheets without a star
+    ∷ sheet Old three-in-line ("R old 2" ∷ "E 1 0 0 4 s0 v0 -" ∷ "E 2 0 1 4 s0 v1 -" ∷ [])
+    ∷ sheet House three-in-line ("R house 2" ∷ "E 1 0 0 4 s0 v0 -" ∷ "E 2 0 1 4 s0 v1 -" ∷ [])
+    ∷ sheet Old unreached-use ("R old 1" ∷ "E 1 0 0 2 r0 - -" ∷ [])
+    ∷ sheet House unreached-use ("R house 1" ∷ "E 1 0 0 2 r0 - -" ∷ [])
+    ∷ sheet House two-failing-uses ("R house 1" ∷ "E 0 0 4 3 r0 v0 r0" ∷ [])
+    ∷ sheet Old missing-uses ("R old 2" ∷ "E 0 1 2 1 - v0 -" ∷ "E 0 1 2 1 - v1 -" ∷ [])
+    ∷ sheet House missing-defs ("R house 2" ∷ "E 1 0 2 1 - v2 -" ∷ "E 1 0 2 1 - v3 -" ∷ [])
+    ∷ sheet Old accepted-loop ("R old 0" ∷ [])
+    ∷ sheet House accepted-loop ("R house 0" ∷ [])
+    ∷ sheet House two-names ("R house 1" ∷ "E 3 0 2 7 s0 - -" ∷ [])
+    -- refusals: in a line the lowest number
+    ∷ sheet House [] ("X 2 0" ∷ [])
+    ∷ sheet House ("B" ∷ []) ("X 4 1" ∷ [])
+    ∷ sheet House ("F 2 2 2 1 0" ∷ []) ("X 4 2" ∷ [])
+    ∷ sheet House ("F 2 2 2 1 1" ∷ []) ("X 5 1" ∷ [])
+    ∷ sheet House (behind "") ("X 3 3" ∷ [])
+    ∷ sheet House (behind "T v0") ("X 3 3" ∷ [])
+    ∷ sheet House (behind "F 0 0 0 0 0") ("X 4 3" ∷ [])
+    ∷ sheet House (behind "P 0") ("R house 0" ∷ [])
+    ∷ sheet House (behind "P 0 1 1") ("X 6 3" ∷ [])
+    ∷ sheet House (behind "O 0 0 2 r0 - v1 0") ("X 7 3" ∷ [])
+    ∷ sheet House (behind "O 0 0 2 r0 1 v1 1") ("X 6 3" ∷ [])
+    ∷ sheet House (behind "O 0 0 2 r0 1 v1 0") ("X 7 3" ∷ [])
+    ∷ sheet House (behind "O 0 1 r0 - 0") ("X 7 3" ∷ [])
+    ∷ sheet House (behind "O 0 1 r0 2 0") ("X 5 3" ∷ [])
+    ∷ sheet House (behind "O 0 9 0") ("X 3 3" ∷ [])
+    ∷ sheet House (behind "O 00 0 0") ("X 3 3" ∷ [])
+    ∷ sheet House ("F 0 1 2 1 0" ∷ "T 0" ∷ "B" ∷ "C 0 0 v0 v1" ∷ []) ("X 8 4" ∷ [])
+    ∷ []
+
+-- every row of the table holds
+table : map computed rows ≡ map expected rows
+unfolding computed expected text bytes-of answer-text
+table = refl

@@ -1,0 +1,77 @@
+-- Document 01: what is answered to any bytes, and what the lent buffers hold afterwards. "Refusal 1 changes nothing. Any other
+-- answer leaves the scratch all zero. A refusal leaves the report as it was; otherwise the report text stands at its start and
+-- later bytes keep their values."
+use mathlib.Core.Bool.{Bool, cond, _||_}
+use mathlib.Core.List.{List, [], _∷_, _++_}
+use Prim.Native.Nat.{ℕ}
+use lib.Dec.{ltb}
+use lib.ListN.{length, drop, replicate}
+use Rattle.paper.specs.Text.{Bytes, digits}
+use Rattle.paper.specs.Sheet.{Sheet}
+use Rattle.paper.specs.Limits.{report-size, words-size, queue-size}
+use Rattle.paper.specs.Refusals.{Reading, loaded, refused, read}
+use Rattle.paper.specs.Report.{Line, behind-tabs, faults, report-text}
+use Rattle.paper.specs.declared.Rule.{Rule}
+use Rattle.paper.specs.declared.Answer.{Answer}
+use Rattle.paper.specs.declared.Answer.the-variants.{Accepted, Faulty, Refused}
+
+-- "exactly one of three answers": accepted or faulty with the report's bytes, refused with a number and a line
+pub data Said : Type 0 where
+  accepted : (text : Bytes) → Said
+  faulty : (text : Bytes) → Said
+  turned-away : (number line : ℕ) → Said
+
+unfoldable pub said-of : Rule → List Line → Said
+said-of rule [] = accepted (report-text rule [])
+said-of rule (l ∷ ls) = faulty (report-text rule (l ∷ ls))
+
+unfoldable pub said-after : Rule → Reading → Said
+said-after rule (refused number line) = turned-away number line
+said-after rule (loaded S) = said-of rule (faults rule S)
+
+-- the answer to a sheet where the lent buffers are large enough
+unfoldable pub answer : Rule → Bytes → Said
+answer rule sheet = said-after rule (read sheet)
+
+-- what a program writes: the report, or `X number line`
+abbrev pub letter-X : ℕ
+letter-X = 88
+
+unfoldable pub written : Said → Bytes
+written (accepted text) = text
+written (faulty text) = text
+written (turned-away number line) = letter-X ∷ behind-tabs (digits number ∷ digits line ∷ [])
+
+-- the buffers that are lent to a call
+pub record Lent : Type 0 where
+  pub report : List ℕ
+  pub words : List ℕ
+  pub queue : List ℕ
+
+-- 1: "report shorter than 32,784 bytes, or a scratch buffer shorter than its published size"
+unfoldable pub too-short : Lent → Bool
+too-short lent = ltb (length (lent .report)) report-size || (ltb (length (lent .words)) words-size || ltb (length (lent .queue)) queue-size)
+
+-- a text at the start of a buffer, "and later bytes keep their values"
+unfoldable pub laid : Bytes → List ℕ → List ℕ
+laid text buffer = text ++ drop (length text) buffer
+
+unfoldable pub zeros : List ℕ → List ℕ
+zeros buffer = replicate (length buffer) 0
+
+-- the answer as it is returned, and the buffers afterwards
+pub record Outcome : Type 0 where
+  pub answer : Answer
+  pub lent : Lent
+
+unfoldable pub outcome-of : Said → Lent → Outcome
+outcome-of (accepted text) lent =
+    record { answer = Accepted (length text); lent = record { report = laid text (lent .report); words = zeros (lent .words); queue = zeros (lent .queue) } }
+outcome-of (faulty text) lent =
+    record { answer = Faulty (length text); lent = record { report = laid text (lent .report); words = zeros (lent .words); queue = zeros (lent .queue) } }
+outcome-of (turned-away number line) lent =
+    record { answer = Refused number line; lent = record { report = lent .report; words = zeros (lent .words); queue = zeros (lent .queue) } }
+
+-- "First 1": it changes nothing
+unfoldable pub outcome : Rule → Bytes → Lent → Outcome
+outcome rule sheet lent = cond (too-short lent) (record { answer = Refused 1 0; lent = lent }) (outcome-of (answer rule sheet) lent)

@@ -1,0 +1,371 @@
+-- Document 01, "When a sheet is turned away": each line's form, then a condition for each row of the table, then their order:
+-- "First 1, then 2 (both with line 0), then the first bad line; in a line the lowest number. Lines count from 1."
+use mathlib.Core.Bool.{Bool, true, false, cond, not, _&&_, _||_, Bool·beq}
+use mathlib.Core.HLevel.{Discrete}
+use mathlib.Core.List.{List, [], _∷_, _++_, map}
+use mathlib.Core.Option.{Option, none, some, Option·map}
+use Prim.Native.Nat.{ℕ, suc, zero, _+_, _-_}
+use native.Mathlib.Decide.{ℕ-discrete}
+use lib.Dec.{eqb, leb, ltb}
+use lib.ListN.{length, getD}
+use Rattle.paper.specs.Text.{Bytes, line-feed, hyphen, lines, fields, number-of, Name, real, virtual, name-same, name-of}
+use Rattle.paper.specs.Sheet.{Operand, Step, spill, reload, move, change, operation, safepoint, Block, Sheet, reference-typed}
+use Rattle.paper.specs.Cells.{pick}
+use Rattle.paper.specs.Limits.{max-regs, max-slots, max-vregs, max-blocks, max-succs, max-operands, max-inst, max-steps, max-sheet}
+
+-- what one line says
+pub data Record : Type 0 where
+  function-record : (regs slots vregs blocks entry : ℕ) → Record
+  typed-record : ℕ → Record
+  block-record : (succs : List ℕ) → Record
+  step-record : Step → Record
+
+-- a value read from the first fields of a line, and the fields behind it
+pub record Read (A : Type 0) : Type 0 where
+  pub value : A
+  pub rest : List Bytes
+
+infixl 40 _>>=_
+abbrev pub _>>=_ : {A B : Type 0} → Option A → (A → Option B) → Option B
+_>>=_ none f = none
+_>>=_ (some a) f = f a
+
+-- the next field, read by f; none where no field is left
+unfoldable pub next : {A : Type 0} → (Bytes → Option A) → List Bytes → Option (Read A)
+next f [] = none
+next f (field ∷ rest) = Option·map (λ a. record { value = a; rest = rest }) (f field)
+
+-- a, where no field is left
+unfoldable pub ended : {A : Type 0} → List Bytes → A → Option A
+ended [] a = some a
+ended (field ∷ rest) a = none
+
+-- the one byte of a field; 0 for any other field
+unfoldable pub one-byte : Bytes → ℕ
+one-byte [] = 0
+one-byte (b ∷ []) = b
+one-byte (b ∷ c ∷ bs) = 0
+
+-- all fields that are left, each a number
+unfoldable pub numbers-of : List Bytes → Option (List ℕ)
+numbers-of [] = some []
+numbers-of (field ∷ rest) = number-of field >>= λ n. Option·map (λ ns. n ∷ ns) (numbers-of rest)
+
+-- `F regs slots vregs blocks entry`
+unfoldable pub function-of : List Bytes → Option Record
+function-of fs = do
+  regs ← next number-of fs
+  slots ← next number-of (regs .rest)
+  vregs ← next number-of (slots .rest)
+  blocks ← next number-of (vregs .rest)
+  entry ← next number-of (blocks .rest)
+  ended (entry .rest) (function-record (regs .value) (slots .value) (vregs .value) (blocks .value) (entry .value))
+
+-- `T n`
+unfoldable pub typed-of : List Bytes → Option Record
+typed-of fs = do
+  n ← next number-of fs
+  ended (n .rest) (typed-record (n .value))
+
+-- `B succ..`; "a ninth successor" is one field too many
+unfoldable pub block-of : List Bytes → Option Record
+block-of fs = do
+  succs ← numbers-of fs
+  cond (leb (length succs) max-succs) (some (block-record succs)) none
+
+-- `S slot reg`, `L reg slot`, `M into from`
+unfoldable pub two-numbers-of : (ℕ → ℕ → Step) → List Bytes → Option Record
+two-numbers-of step fs = do
+  a ← next number-of fs
+  b ← next number-of (a .rest)
+  ended (b .rest) (step-record (step (a .value) (b .value)))
+
+-- `C inst slot from to`
+unfoldable pub change-of : List Bytes → Option Record
+change-of fs = do
+  inst ← next number-of fs
+  slot ← next number-of (inst .rest)
+  from ← next name-of (slot .rest)
+  to ← next name-of (from .rest)
+  ended (to .rest) (step-record (change (inst .value) (slot .value) (from .value) (to .value)))
+
+-- a register's number, or `-` for none
+unfoldable pub allocation-of : Bytes → Option (Option ℕ)
+allocation-of field = cond (eqb (one-byte field) hyphen) (some none) (Option·map some (number-of field))
+
+-- `(name reg)*n`
+unfoldable pub operands-of : ℕ → List Bytes → Option (Read (List Operand))
+operands-of zero fs = some (record { value = []; rest = fs })
+operands-of (suc n) fs = do
+  name ← next name-of fs
+  reg ← next allocation-of (name .rest)
+  more ← operands-of n (reg .rest)
+  some (record { value = record { name = name .value; reg = reg .value } ∷ more .value; rest = more .rest })
+
+-- `n (name reg)*n`
+unfoldable pub counted-operands-of : List Bytes → Option (Read (List Operand))
+counted-operands-of fs = do
+  n ← next number-of fs
+  operands-of (n .value) (n .rest)
+
+-- `O inst n (name reg)*n m (name reg)*m`
+unfoldable pub operation-of : List Bytes → Option Record
+operation-of fs = do
+  inst ← next number-of fs
+  uses ← counted-operands-of (inst .rest)
+  defs ← counted-operands-of (uses .rest)
+  ended (defs .rest) (step-record (operation (inst .value) (uses .value) (defs .value)))
+
+-- `P inst slot..`
+unfoldable pub safepoint-of : List Bytes → Option Record
+safepoint-of fs = do
+  inst ← next number-of fs
+  slots ← numbers-of (inst .rest)
+  some (step-record (safepoint (inst .value) slots))
+
+unfoldable pub by-letter : ℕ → List Bytes → Option Record
+by-letter letter fs =
+    -- F T B S L M C O P
+    cond (eqb letter 70) (function-of fs)
+    (cond (eqb letter 84) (typed-of fs)
+    (cond (eqb letter 66) (block-of fs)
+    (cond (eqb letter 83) (two-numbers-of spill fs)
+    (cond (eqb letter 76) (two-numbers-of reload fs)
+    (cond (eqb letter 77) (two-numbers-of move fs)
+    (cond (eqb letter 67) (change-of fs)
+    (cond (eqb letter 79) (operation-of fs)
+    (cond (eqb letter 80) (safepoint-of fs) none))))))))
+
+-- 3: "empty line, unknown letter, ill-formed number or name, wrong number of fields": none
+unfoldable pub record-of : List Bytes → Option Record
+record-of [] = none
+record-of (letter ∷ fs) = by-letter (one-byte letter) fs
+
+-- a test that one element of the list meets
+unfoldable pub any : {A : Type 0} → (A → Bool) → List A → Bool
+any test [] = false
+any test (x ∷ xs) = test x || any test xs
+
+unfoldable pub empty : {A : Type 0} → List A → Bool
+empty [] = true
+empty (x ∷ xs) = false
+
+-- 4: "record out of place: no `F` first, a second `F`, `T` after `B`, a step before `B`, a `B` too many". Of the sheet so far,
+-- none before its `F`.
+unfoldable pub out-of-place : Option Sheet → Record → Bool
+out-of-place none (function-record regs slots vregs blocks entry) = false
+out-of-place none (typed-record n) = true
+out-of-place none (block-record succs) = true
+out-of-place none (step-record x) = true
+out-of-place (some S) (function-record regs slots vregs blocks entry) = true
+out-of-place (some S) (typed-record n) = not (empty (S .body))
+out-of-place (some S) (block-record succs) = leb (S .blocks) (length (S .body))
+out-of-place (some S) (step-record x) = empty (S .body)
+
+-- 5: "a value beyond its limit, n and m above 8 included"
+unfoldable pub name-beyond : Sheet → Name → Bool
+name-beyond S (real n) = leb (S .regs) n
+name-beyond S (virtual n) = leb (S .vregs) n
+
+unfoldable pub reg-beyond : Sheet → Option ℕ → Bool
+reg-beyond S none = false
+reg-beyond S (some r) = leb (S .regs) r
+
+unfoldable pub operand-beyond : Sheet → Operand → Bool
+operand-beyond S u = name-beyond S (u .name) || reg-beyond S (u .reg)
+
+unfoldable pub step-beyond : Sheet → Step → Bool
+step-beyond S (spill k r) = leb (S .slots) k || leb (S .regs) r
+step-beyond S (reload r k) = leb (S .regs) r || leb (S .slots) k
+step-beyond S (move into from) = leb (S .regs) into || leb (S .regs) from
+step-beyond S (change inst k from to) = ltb max-inst inst || (leb (S .slots) k || (name-beyond S from || name-beyond S to))
+step-beyond S (operation inst uses defs) =
+    ltb max-inst inst
+    || (ltb max-operands (length uses) || (any (operand-beyond S) uses || (ltb max-operands (length defs) || any (operand-beyond S) defs)))
+step-beyond S (safepoint inst slots) = ltb max-inst inst || any (leb (S .slots)) slots
+
+unfoldable pub beyond-limit : Sheet → Record → Bool
+beyond-limit S (function-record regs slots vregs blocks entry) =
+    ltb max-regs regs || (ltb max-slots slots || (ltb max-vregs vregs || (ltb max-blocks blocks || (eqb blocks 0 || leb blocks entry))))
+beyond-limit S (typed-record n) = leb (S .vregs) n
+beyond-limit S (block-record succs) = any (leb (S .blocks)) succs
+beyond-limit S (step-record x) = step-beyond S x
+
+-- 6: "`T` or `P` not ascending; in one `O`, two uses with the same name, or two defs with the same name or the same register
+-- (`-` is no register)"
+unfoldable pub ascending-from : ℕ → List ℕ → Bool
+ascending-from least [] = true
+ascending-from least (n ∷ ns) = leb least n && ascending-from (suc n) ns
+
+-- each larger than the one before
+unfoldable pub ascending : List ℕ → Bool
+ascending ns = ascending-from 0 ns
+
+unfoldable pub repeats : {A : Type 0} → Discrete A → List A → Bool
+repeats same [] = false
+repeats same (x ∷ xs) = any (λ y. pick (same x y) true false) xs || repeats same xs
+
+unfoldable pub names : List Operand → List Name
+names us = map (λ u. u .name) us
+
+unfoldable pub allocated : List Operand → List ℕ
+allocated [] = []
+allocated (u ∷ us) = onto (u .reg) (allocated us)
+  where
+    onto : Option ℕ → List ℕ → List ℕ
+    onto none rs = rs
+    onto (some r) rs = r ∷ rs
+
+unfoldable pub step-out-of-order : Step → Bool
+step-out-of-order (spill k r) = false
+step-out-of-order (reload r k) = false
+step-out-of-order (move into from) = false
+step-out-of-order (change inst k from to) = false
+step-out-of-order (operation inst uses defs) = repeats name-same (names uses) || (repeats name-same (names defs) || repeats ℕ-discrete (allocated defs))
+step-out-of-order (safepoint inst slots) = not (ascending slots)
+
+unfoldable pub out-of-order : Sheet → Record → Bool
+out-of-order S (function-record regs slots vregs blocks entry) = false
+out-of-order S (typed-record n) = not (ascending (S .typed ++ (n ∷ [])))
+out-of-order S (block-record succs) = false
+out-of-order S (step-record x) = step-out-of-order x
+
+-- 7: "real name mapped to another register or to `-`"
+unfoldable pub is-reg : ℕ → Option ℕ → Bool
+is-reg n none = false
+is-reg n (some r) = eqb r n
+
+unfoldable pub elsewhere : Name → Option ℕ → Bool
+elsewhere (real n) reg = not (is-reg n reg)
+elsewhere (virtual n) reg = false
+
+unfoldable pub real-elsewhere : Record → Bool
+real-elsewhere (function-record regs slots vregs blocks entry) = false
+real-elsewhere (typed-record n) = false
+real-elsewhere (block-record succs) = false
+real-elsewhere (step-record (spill k r)) = false
+real-elsewhere (step-record (reload r k)) = false
+real-elsewhere (step-record (move into from)) = false
+real-elsewhere (step-record (change inst k from to)) = false
+real-elsewhere (step-record (operation inst uses defs)) = any (λ u. elsewhere (u .name) (u .reg)) uses || any (λ u. elsewhere (u .name) (u .reg)) defs
+real-elsewhere (step-record (safepoint inst slots)) = false
+
+-- 8: "`C` whose names differ in being reference-typed"
+unfoldable pub types-differ : Sheet → Record → Bool
+types-differ S (function-record regs slots vregs blocks entry) = false
+types-differ S (typed-record n) = false
+types-differ S (block-record succs) = false
+types-differ S (step-record (spill k r)) = false
+types-differ S (step-record (reload r k)) = false
+types-differ S (step-record (move into from)) = false
+types-differ S (step-record (change inst k from to)) = not (Bool·beq (reference-typed S from) (reference-typed S to))
+types-differ S (step-record (operation inst uses defs)) = false
+types-differ S (step-record (safepoint inst slots)) = false
+
+-- 9: "the 1,025th step"
+unfoldable pub step-count : List Block → ℕ
+step-count [] = 0
+step-count (B ∷ Bs) = length (B .steps) + step-count Bs
+
+unfoldable pub step-too-many : Sheet → Record → Bool
+step-too-many S (function-record regs slots vregs blocks entry) = false
+step-too-many S (typed-record n) = false
+step-too-many S (block-record succs) = false
+step-too-many S (step-record x) = leb max-steps (step-count (S .body))
+
+-- a sheet before its `F`: no count, no name, no block
+abbrev pub blank : Sheet
+blank = record { regs = 0; slots = 0; vregs = 0; blocks = 0; entry = 0; typed = []; body = [] }
+
+abbrev pub so-far-of : Option Sheet → Sheet
+so-far-of none = blank
+so-far-of (some S) = S
+
+-- a refusal's number and whether its condition holds
+pub record Condition : Type 0 where
+  pub number : ℕ
+  pub holds : Bool
+
+unfoldable pub first-holding : List Condition → Option ℕ
+first-holding [] = none
+first-holding (c ∷ cs) = cond (c .holds) (some (c .number)) (first-holding cs)
+
+-- "in a line the lowest number": the conditions on a well-formed line, in order
+unfoldable pub conditions : Option Sheet → Record → List Condition
+conditions so-far r =
+    let S = so-far-of so-far in
+    record { number = 4; holds = out-of-place so-far r }
+    ∷ record { number = 5; holds = beyond-limit S r }
+    ∷ record { number = 6; holds = out-of-order S r }
+    ∷ record { number = 7; holds = real-elsewhere r }
+    ∷ record { number = 8; holds = types-differ S r }
+    ∷ record { number = 9; holds = step-too-many S r }
+    ∷ []
+
+-- a step more at the end of the last block
+unfoldable pub add-step : Step → List Block → List Block
+add-step x [] = []
+add-step x (B ∷ []) = record { succs = B .succs; steps = B .steps ++ (x ∷ []) } ∷ []
+add-step x (B ∷ C ∷ Bs) = B ∷ add-step x (C ∷ Bs)
+
+-- the sheet so far with one record more
+unfoldable pub add-record : Sheet → Record → Sheet
+add-record S (function-record regs slots vregs blocks entry) =
+    record { regs = regs; slots = slots; vregs = vregs; blocks = blocks; entry = entry; typed = []; body = [] }
+add-record S (typed-record n) =
+    record { regs = S .regs; slots = S .slots; vregs = S .vregs; blocks = S .blocks; entry = S .entry; typed = S .typed ++ (n ∷ []); body = S .body }
+add-record S (block-record succs) = record {
+  regs = S .regs;
+  slots = S .slots;
+  vregs = S .vregs;
+  blocks = S .blocks;
+  entry = S .entry;
+  typed = S .typed;
+  body = S .body ++ (record { succs = succs; steps = [] } ∷ []);
+}
+add-record S (step-record x) =
+    record { regs = S .regs; slots = S .slots; vregs = S .vregs; blocks = S .blocks; entry = S .entry; typed = S .typed; body = add-step x (S .body) }
+
+-- what reading a sheet gives
+pub data Reading : Type 0 where
+  loaded : Sheet → Reading
+  refused : (number line : ℕ) → Reading
+
+-- what one line makes of the sheet so far: refused, by a number, or one record more
+pub data Lined : Type 0 where
+  good : Sheet → Lined
+  bad : ℕ → Lined
+
+unfoldable pub judged : Option Sheet → Record → Option ℕ → Lined
+judged so-far r none = good (add-record (so-far-of so-far) r)
+judged so-far r (some number) = bad number
+
+-- "a line's whole form (3) comes before" the other conditions
+unfoldable pub read-record : Option Sheet → Option Record → Lined
+read-record so-far none = bad 3
+read-record so-far (some r) = judged so-far r (first-holding (conditions so-far r))
+
+unfoldable pub read-line : Option Sheet → Bytes → Lined
+read-line so-far line = read-record so-far (record-of (fields line))
+
+-- "or the sheet ends with too few `B` (line: last + 1)"
+unfoldable pub read-end : ℕ → Option Sheet → Reading
+read-end line none = refused 4 line
+read-end line (some S) = cond (ltb (length (S .body)) (S .blocks)) (refused 4 line) (loaded S)
+
+-- a bad line's refusal, or what follows a good one
+unfoldable pub carry-on : ℕ → Lined → (Sheet → Reading) → Reading
+carry-on line (good S) more = more S
+carry-on line (bad number) more = refused number line
+
+-- "then the first bad line"
+unfoldable pub read-lines : ℕ → Option Sheet → List Bytes → Reading
+read-lines line so-far [] = read-end line so-far
+read-lines line so-far (l ∷ ls) = carry-on line (read-line so-far l) (λ S. read-lines (suc line) (some S) ls)
+
+-- 2: "sheet empty, too long, or its last byte is not LF"
+unfoldable pub no-text : Bytes → Bool
+no-text sheet = empty sheet || (ltb max-sheet (length sheet) || not (eqb (getD sheet (length sheet - 1) 0) line-feed))
+
+unfoldable pub read : Bytes → Reading
+read sheet = cond (no-text sheet) (refused 2 0) (read-lines 1 none (lines sheet))
