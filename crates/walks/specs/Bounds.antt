@@ -136,7 +136,7 @@ unfolding sum
 sum-row zero c = omega arith
 sum-row (suc n) c = rw (sum-row n c) (omega (arith, mul-suc c n))
 
-sum-shape : (S : Sheet) (c : ℕ) → sum (sum (λ (u : Unit {0}). c)) (shape S) ≡ c * (S .regs + S .slots)
+pub sum-shape : (S : Sheet) (c : ℕ) → sum (sum (λ (u : Unit {0}). c)) (shape S) ≡ c * (S .regs + S .slots)
 unfolding sum shape
 sum-shape S c = rw (sum-row (S .regs) c, sum-row (S .slots) c, mul-add c (S .regs) (S .slots)) (omega arith)
 
@@ -199,7 +199,7 @@ ranked rule S C = record {
   succs-in = C .succs-in;
 }
 
-suc-is : (n : ℕ) → suc n ≡ 1 + n
+pub suc-is : (n : ℕ) → suc n ≡ 1 + n
 suc-is n = omega arith
 
 pub within-begin : (rule : Rule) (S : Sheet) (C : Closed S) → Within (ranked rule S C) (visit-bound rule S) 0 (begin rule S)

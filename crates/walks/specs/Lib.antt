@@ -9,3 +9,12 @@ pub mod Effects
 pub mod Fits
 pub mod Bounds
 pub mod Loop
+pub mod Checks
+pub mod Holding
+pub mod Honest
+pub mod Simulation
+pub mod House
+pub mod Above
+pub mod Witness
+pub mod Lines
+pub mod Acceptance

@@ -1,0 +1,72 @@
+-- No line is reported exactly when no allocation is missing and every block passes its checks, each from the state that the
+-- analysis gives it.
+use mathlib.Core.Path.{_≡_, refl, sym, _∙_, ap, subst}
+use mathlib.Core.Logic.{_↔_}
+use mathlib.Core.List.{List, [], _∷_, _++_, nil≢cons}
+use mathlib.Core.Option.{Option, none, some}
+use Prim.Native.Nat.{ℕ, suc, zero, _+_, _≤_, _<_}
+use native.Mathlib.Omega.{arith}
+use native.Mathlib.Decide.{ℕ-discrete}
+use Rattle.paper.specs.Sheet.{Step, Sheet, steps-of, reference-typed}
+use Rattle.paper.specs.Steps.{State, Fault, check, effect}
+use Rattle.paper.specs.Runs.{checked-from}
+use Rattle.paper.specs.Report.{Line, line-of, faults-from, block-faults, by-block, find-errors, first-list, missing-allocations, faults}
+use Rattle.paper.specs.Walks.{Passes}
+use Rattle.paper.specs.declared.Rule.the-variants.{House}
+
+-- every block passes from the state it is checked from
+abbrev pub BlocksPass : Sheet → Type 0
+BlocksPass S = (b : ℕ) → b < S .blocks → Passes (reference-typed S) (steps-of S b) (checked-from House S b)
+
+append-none : {A : Type 0} (a b : List A) → a ++ b ≡ [] → (a ≡ []) × (b ≡ [])
+append-none [] b e = (refl, e)
+append-none (x ∷ a) b e = absurd (nil≢cons (sym e))
+
+module _ (S : Sheet) where
+  lines-pass : (b place : ℕ) (xs : List Step) (s : State) → faults-from House S b place xs s ≡ [] → Passes (reference-typed S) xs s
+  unfolding faults-from line-of Passes
+  lines-pass b place [] s e = tt
+  lines-pass b place (x ∷ xs) s e = go (check x s) refl e (lines-pass b (suc place) xs s′)
+    where
+      s′ : State
+      s′ = effect House (reference-typed S) x s
+
+      go : (o : Option Fault) → check x s ≡ o → line-of b place x o ++ faults-from House S b (suc place) xs s′ ≡ []
+          → (faults-from House S b (suc place) xs s′ ≡ [] → Passes (reference-typed S) xs s′) → (check x s ≡ none) × Passes (reference-typed S) xs s′
+      go none q f rec = (q, rec f)
+      go (some w) q f rec = absurd (nil≢cons (sym f))
+
+  pass-lines : (b place : ℕ) (xs : List Step) (s : State) → Passes (reference-typed S) xs s → faults-from House S b place xs s ≡ []
+  unfolding faults-from line-of Passes
+  pass-lines b place [] s h = refl
+  pass-lines b place (x ∷ xs) s h = rw (h .0) (pass-lines b (suc place) xs (effect House (reference-typed S) x s) (h .1))
+
+  blocks-pass : (n b : ℕ) → by-block (block-faults House S) b n ≡ [] → (c : ℕ) → b ≤ c → c < b + n → Passes (reference-typed S) (steps-of S c) (checked-from House S c)
+  unfolding by-block block-faults
+  blocks-pass zero b e c l u = absurd (omega arith)
+  blocks-pass (suc n) b e c l u = go (ℕ-discrete b c) (blocks-pass n (suc b) (p .1) c)
+    where
+      p : (block-faults House S b ≡ []) × (by-block (block-faults House S) (suc b) n ≡ [])
+      p = append-none (block-faults House S b) (by-block (block-faults House S) (suc b) n) e
+
+      go : Dec (b ≡ c) → (suc b ≤ c → c < suc b + n → Passes (reference-typed S) (steps-of S c) (checked-from House S c)) → Passes (reference-typed S) (steps-of S c) (checked-from House S c)
+      go (yes q) rec = subst (λ (d : ℕ). Passes (reference-typed S) (steps-of S d) (checked-from House S d)) q (lines-pass b 0 (steps-of S b) (checked-from House S b) (p .0))
+      go (no q) rec = rec (omega arith) (omega arith)
+
+  pass-blocks : (n b : ℕ) → ((c : ℕ) → b ≤ c → c < b + n → Passes (reference-typed S) (steps-of S c) (checked-from House S c)) → by-block (block-faults House S) b n ≡ []
+  unfolding by-block block-faults
+  pass-blocks zero b h = refl
+  pass-blocks (suc n) b h =
+      rw (pass-lines b 0 (steps-of S b) (checked-from House S b) (h b (omega arith) (omega arith))) (pass-blocks n (suc b) (λ c l u. h c (omega arith) (omega arith)))
+
+  first-none : (k l : List Line) → (first-list k l ≡ []) ↔ ((k ≡ []) × (l ≡ []))
+  unfolding first-list
+  first-none [] l = (λ e. (refl, e), λ p. p .1)
+  first-none (x ∷ k) l = (λ e. absurd (nil≢cons (sym e)), λ p. p .0)
+
+  pub no-faults : (faults House S ≡ []) ↔ ((missing-allocations S ≡ []) × BlocksPass S)
+  unfolding faults find-errors
+  no-faults = (
+    λ e. let p = first-none (missing-allocations S) (find-errors House S) .0 e in (p .0, λ b l. blocks-pass (S .blocks) 0 (p .1) b (omega arith) (omega arith)),
+    λ p. first-none (missing-allocations S) (find-errors House S) .1 (p .0, pass-blocks (S .blocks) 0 (λ c l u. p .1 c (omega arith))),
+  )
