@@ -6,7 +6,8 @@ use mathlib.Core.List.{List, [], _∷_}
 use mathlib.Core.Option.{Option, none, some}
 use Prim.Native.Nat.{ℕ}
 use native.Mathlib.Omega.{arith}
-use lib.Dec.{T, eqb, eqb→eq}
+use lib.Dec.{eqb}
+use borrow.Author.Tests.{eqb-true}
 use Rattle.paper.specs.Text.{Name, name-same}
 use Rattle.paper.specs.Sheet.{Operand, listed}
 use Rattle.paper.specs.Cells.{Cell, absent, unknown, conflicted, named, pick}
@@ -106,5 +107,5 @@ listed-in [] i e = let z : _≡_ {A = ℕ} 0 1 = cc in absurd (omega arith)
 listed-in (k ∷ ks) i e = go (eqb k i) refl e (listed-in ks i)
   where
     go : (b : Bool) → eqb k i ≡ b → (b || listed ks i) ≡ true → (listed ks i ≡ true → In i ks) → In i (k ∷ ks)
-    go true p f rec = here (sym (eqb→eq k i (subst T (sym p) tt)))
+    go true p f rec = here (sym (eqb-true k i p))
     go false p f rec = there (rec f)

@@ -18,3 +18,5 @@ pub mod Above
 pub mod Witness
 pub mod Lines
 pub mod Acceptance
+pub mod OldRule
+pub mod Reading

@@ -1,10 +1,12 @@
 -- Runs that serve the blocks in any order, and the run of document 01 as one of them: all that finish hold the same table.
 use mathlib.Core.Path.{_≡_, refl, sym, _∙_, ap, subst}
-use mathlib.Core.Logic.{_⊎_, inl, inr}
+use mathlib.Core.Logic.{_⊎_, inl, inr, ⊎-map}
 use mathlib.Core.List.{List, [], _∷_, _++_}
 use mathlib.Core.Option.{Option, none, some}
 use Prim.Native.Nat.{ℕ, suc, zero, _+_}
 use native.Mathlib.Nat.{zero-add, suc-add}
+use native.Mathlib.Decide.{ℕ-discrete}
+use Rattle.paper.specs.Cells.{pick}
 use Rattle.paper.specs.Runs.{Flow, Run, spread, visit-at, step-at, step, run}
 use Rattle.paper.specs.Walks.{In, here, there}
 use Rattle.walks.specs.Flow.{Laws, Good, visit-good, skip-good, meet-unique, is-meet, reached, unreached}
@@ -18,6 +20,16 @@ module _ {A : Type 0} (F : Flow A) where
         → ((c : ℕ) → In c (r₁ .queue) → (c ≡ b) ⊎ In c rest)
         → ((s : ℕ) → In s (F .succs b) → In s ss) → ((s : ℕ) → In s ss → In s (F .succs b))
         → Served r r₁ → Served r (spread F ss (F .through b a) (record { table = r₁ .table; queue = rest }))
+
+  -- the waiting blocks without the first b
+  unfoldable pub without : ℕ → List ℕ → List ℕ
+  without b [] = []
+  without b (c ∷ queue) = pick (ℕ-discrete c b) queue (c ∷ without b queue)
+
+  -- blocks served in a given order
+  unfoldable pub in-order : List ℕ → Run A → Run A
+  in-order [] r = r
+  in-order (b ∷ order) r = in-order order (visit-at F (r .table b) b (record { table = r .table; queue = without b (r .queue) }))
 
   -- one visit more, and a run that is cut in two
   pub run-suc : (k : ℕ) (r : Run A) → run F (suc k) r ≡ step F (run F k r)
@@ -41,24 +53,42 @@ module _ {A : Type 0} (F : Flow A) where
     served-good g begun = g
     served-good g (serve {r₁} b a rest ss h wait all only s) = visit-good F L r₁ (served-good g s) b rest wait a h ss all only
 
+    still-waits : (b c : ℕ) (queue : List ℕ) → In c queue → (c ≡ b) ⊎ In c (without b queue)
+    unfolding without
+    still-waits b c (d ∷ queue) i = go (ℕ-discrete d b) i (λ j. still-waits b c queue j)
+      where
+        go : (e : Dec (d ≡ b)) → In c (d ∷ queue) → (In c queue → (c ≡ b) ⊎ In c (without b queue)) → (c ≡ b) ⊎ In c (pick e queue (d ∷ without b queue))
+        go (yes e) (here p) rec = inl (p ∙ e)
+        go (yes e) (there j) rec = inr j
+        go (no e) (here p) rec = inr (here p)
+        go (no e) (there j) rec = ⊎-map (λ q. q) there (rec j)
+
+    -- any visit of any block
+    attend-good : (r : Run A) → Good F r → (b : ℕ) (rest : List ℕ) → ((c : ℕ) → In c (r .queue) → (c ≡ b) ⊎ In c rest)
+        → Good F (visit-at F (r .table b) b (record { table = r .table; queue = rest }))
+    unfolding visit-at
+    attend-good r g b rest wait = visited (r .table b) refl
+      where
+        visited : (o : Option A) → r .table b ≡ o → Good F (visit-at F o b (record { table = r .table; queue = rest }))
+        visited none h = skip-good F L r g b rest wait h
+        visited (some x) h = visit-good F L r g b rest wait x h (F .succs b) (λ s i. i) (λ s i. i)
+
+    pub in-order-good : (order : List ℕ) (r : Run A) → Good F r → Good F (in-order order r)
+    unfolding in-order
+    in-order-good [] r g = g
+    in-order-good (b ∷ order) r g = in-order-good order _ (attend-good r g b (without b (r .queue)) (λ c i. still-waits b c (r .queue) i))
+
     step-good : (r : Run A) → Good F r → Good F (step F r)
-    unfolding step step-at visit-at
+    unfolding step step-at
     step-good r g = at (r .queue) refl
       where
         at : (q : List ℕ) → r .queue ≡ q → Good F (step-at F q r)
         at [] e = g
-        at (b ∷ q) e = visited (r .table b) refl
+        at (b ∷ q) e = attend-good r g b q (λ c i. go c (subst (In c) e i))
           where
-            wait : (c : ℕ) → In c (r .queue) → (c ≡ b) ⊎ In c q
-            wait c i = go (subst (In c) e i)
-              where
-                go : In c (b ∷ q) → (c ≡ b) ⊎ In c q
-                go (here p) = inl p
-                go (there j) = inr j
-
-            visited : (o : Option A) → r .table b ≡ o → Good F (visit-at F o b (record { table = r .table; queue = q }))
-            visited none h = skip-good F L r g b q wait h
-            visited (some x) h = visit-good F L r g b q wait x h (F .succs b) (λ s i. i) (λ s i. i)
+            go : (c : ℕ) → In c (b ∷ q) → (c ≡ b) ⊎ In c q
+            go c (here p) = inl p
+            go c (there j) = inr j
 
     pub run-good : (k : ℕ) (r : Run A) → Good F r → Good F (run F k r)
     unfolding run

@@ -1,0 +1,87 @@
+-- What fails under the old rule. A change of ownership turns Conflicted into an unmarked name and a marked name into a marked one,
+-- though Conflicted is below: its effect does not distribute over the meet. So the order in which blocks are served shows in the
+-- states, and in the report.
+use mathlib.Core.Path.{_≡_, refl}
+use mathlib.Core.Bool.{Bool, true, false}
+use mathlib.Core.List.{List, [], _∷_}
+use mathlib.Core.Option.{Option, none, some}
+use Prim.Native.Nat.{ℕ}
+use native.Mathlib.Decide.{ℕ-discrete}
+use Rattle.paper.specs.Text.{Name, virtual, name-same}
+use Rattle.paper.specs.Sheet.{Operand, Step, spill, change, operation, safepoint, Block, Sheet, listed, reference-typed}
+use Rattle.paper.specs.Cells.{Cell, conflicted, named, cell-same, meet-names, old-meet, meet, copied, old-changed}
+use Rattle.paper.specs.Steps.{State, get, put, location-of, row-of, unfilled, entry-state, unreached-state, Fault, stack-map-specifies-non-ref-slot, first-of, check-slot, check-slots, check, copy, old-define, old-effect, effect, effects}
+use Rattle.paper.specs.Runs.{Run, update, store, push-at, push, spread, visit-at, step-at, step, run, both, meet-states, cons-same, list-same, state-same, flow, before, begin, visit-bound, analysis}
+use Rattle.paper.specs.declared.Rule.the-variants.{Old}
+use Rattle.walks.specs.Order.{without, in-order}
+
+abbrev pub v0 : Name
+v0 = virtual 0
+
+abbrev pub v1 : Name
+v1 = virtual 1
+
+abbrev pub v2 : Name
+v2 = virtual 2
+
+abbrev pub ownership : Step
+ownership = change 2 0 v0 v2
+
+-- a state of no register and one slot
+abbrev pub slot-holds : Cell → State
+slot-holds c = [] ∷ (c ∷ []) ∷ []
+
+-- the effect of the meet, and the meet of the effects
+pub old-effect-of-meet : (ref : Name → Bool) → effect Old ref ownership (meet-states Old (slot-holds (named v0 true)) (slot-holds (named v1 true))) ≡ slot-holds (named v2 false)
+unfolding effect old-effect meet-states both meet old-meet meet-names name-same ℕ-discrete put get old-changed
+old-effect-of-meet ref = refl
+
+pub old-meet-of-effects : (ref : Name → Bool) → meet-states Old (effect Old ref ownership (slot-holds (named v0 true))) (effect Old ref ownership (slot-holds (named v1 true))) ≡ slot-holds (named v2 true)
+unfolding effect old-effect meet-states both meet old-meet meet-names name-same ℕ-discrete put get old-changed
+old-meet-of-effects ref = refl
+
+abbrev pub defines : Name → Step
+defines n = operation 0 [] (record { name = n; reg = some 0 } ∷ [])
+
+-- Blocks 1 and 2 bring a reference-typed name each to slot 0; block 3 changes its ownership; block 4 is a safepoint that lists it.
+abbrev pub crossing : Sheet
+crossing = record {
+  regs = 1;
+  slots = 1;
+  vregs = 3;
+  blocks = 5;
+  entry = 0;
+  typed = 0 ∷ 1 ∷ 2 ∷ [];
+  body =
+      record { succs = 1 ∷ 2 ∷ []; steps = [] }
+      ∷ record { succs = 3 ∷ []; steps = defines v0 ∷ spill 0 0 ∷ [] }
+      ∷ record { succs = 3 ∷ []; steps = defines v1 ∷ spill 0 0 ∷ [] }
+      ∷ record { succs = 4 ∷ []; steps = ownership ∷ [] }
+      ∷ record { succs = []; steps = safepoint 3 (0 ∷ []) ∷ [] }
+      ∷ [];
+}
+
+-- what a run of that sheet leaves: the waiting blocks, block 4's state, and what its safepoint's check finds
+pub record End : Type 0 where
+  pub waiting : List ℕ
+  pub last : Option State
+  pub found : Option Fault
+
+unfoldable pub found-in : Option State → Option Fault
+found-in none = none
+found-in (some s) = check (safepoint 3 (0 ∷ [])) s
+
+-- to unfold this is to unfold all that a run computes by
+unfoldable pub end-of : Run State → End
+unfolding found-in without in-order ℕ-discrete name-same listed reference-typed cell-same meet-names old-meet meet copied old-changed get put location-of row-of unfilled entry-state unreached-state first-of check-slot check-slots check copy old-define old-effect effect effects update store push-at push spread visit-at step-at step run both meet-states cons-same list-same state-same flow before begin visit-bound analysis
+end-of r = record { waiting = r .queue; last = r .table 4; found = found-in (r .table 4) }
+
+-- the defined run serves 0 1 2 3 3 4: the slot's name is unmarked, kind 6
+pub first-in-first-out : end-of (analysis Old crossing) ≡ record { waiting = []; last = some ((conflicted ∷ []) ∷ (named v2 false ∷ []) ∷ []); found = some (stack-map-specifies-non-ref-slot 0) }
+unfolding end-of
+first-in-first-out = refl
+
+-- block 3 served before block 2: the slot's name is marked, and no fault is found
+pub another-order : end-of (in-order (flow Old crossing) (0 ∷ 1 ∷ 3 ∷ 2 ∷ 4 ∷ 3 ∷ 4 ∷ []) (begin Old crossing)) ≡ record { waiting = []; last = some ((conflicted ∷ []) ∷ (named v2 true ∷ []) ∷ []); found = none }
+unfolding end-of
+another-order = refl
