@@ -10,7 +10,7 @@ use Rattle.paper.specs.Runs.{Run, flow, before, begin, visit-bound, analysis}
 use Rattle.paper.specs.Walks.{here, HouseWalk, MeetOverWalks}
 use Rattle.paper.specs.declared.Rule.the-variants.{House}
 use Rattle.walks.specs.Flow.{Good, start-good, is-meet, reached, unreached}
-use Rattle.walks.specs.Order.{Served, served-good, run-good, same-end}
+use Rattle.walks.specs.Order.{Served, served-good, in-order, in-order-good, run-good, same-end}
 use Rattle.walks.specs.Effects.{house-laws}
 use Rattle.walks.specs.Bounds.{Closed}
 use Rattle.walks.specs.Loop.{analysis-ends}
@@ -34,6 +34,12 @@ module _ (S : Sheet) (C : Closed S) where
   pub house-unreached : (b : ℕ) → (analysis House S) .table b ≡ none → ¬ HouseWalk S b
   house-unreached = unreached (flow House S) (house-laws S) (analysis House S) (house-good S) (analysis-ends House S C)
 
+  same-table : (r : Run State) → Good (flow House S) r → r .queue ≡ [] → (b : ℕ) → r .table b ≡ (analysis House S) .table b
+  same-table r g e = same-end (flow House S) (house-laws S) r (analysis House S) g (house-good S) e (analysis-ends House S C)
+
   pub house-any-order : (r : Run State) → Served (flow House S) (begin House S) r → r .queue ≡ [] → (b : ℕ) → r .table b ≡ (analysis House S) .table b
-  house-any-order r s e =
-      same-end (flow House S) (house-laws S) r (analysis House S) (served-good (flow House S) (house-laws S) (begin-good S) s) (house-good S) e (analysis-ends House S C)
+  house-any-order r s = same-table r (served-good (flow House S) (house-laws S) (begin-good S) s)
+
+  pub house-in-order : (order : List ℕ) → (in-order (flow House S) order (begin House S)) .queue ≡ []
+      → (b : ℕ) → (in-order (flow House S) order (begin House S)) .table b ≡ (analysis House S) .table b
+  house-in-order order = same-table (in-order (flow House S) order (begin House S)) (in-order-good (flow House S) (house-laws S) order (begin House S) (begin-good S))

@@ -20,3 +20,4 @@ pub mod Lines
 pub mod Acceptance
 pub mod OldRule
 pub mod Reading
+pub mod Theorems

@@ -15,7 +15,10 @@ use Rattle.paper.specs.Text.{Bytes, lines, fields, Name, real, virtual}
 use Rattle.paper.specs.Sheet.{Step, spill, reload, move, change, operation, safepoint, Block, Sheet, no-block, succs-of, steps-of, listed, reference-typed}
 use Rattle.paper.specs.Limits.{max-regs, max-slots, max-vregs, max-blocks}
 use Rattle.paper.specs.Refusals.{Record, function-record, typed-record, block-record, step-record, record-of, any, empty, out-of-place, beyond-limit, types-differ, so-far-of, Condition, first-holding, conditions, add-step, add-record, Reading, loaded, refused, Lined, good, bad, judged, read-record, read-line, read-end, carry-on, read-lines, no-text, read}
+use Rattle.paper.specs.Report.{Line, faults, report-text}
+use Rattle.paper.specs.Answer.{Said, accepted, faulty, turned-away, said-of, said-after, answer}
 use Rattle.paper.specs.Walks.{In, here, there}
+use Rattle.paper.specs.declared.Rule.{Rule}
 use Rattle.walks.specs.Choices.{in-nil, in-append, some-not-none}
 use Rattle.walks.specs.Bounds.{Closed}
 use Rattle.walks.specs.Honest.{Typed}
@@ -163,7 +166,7 @@ line-sound so-far line S g e = at (record-of (fields line)) e
     at none f = let z : _≡_ {A = ℕ} 0 1 = cc in absurd (omega arith)
     at (some r) f = met r (first-holding (conditions so-far r)) refl f
 
-loaded-inj : {S R : Sheet} → loaded S ≡ loaded R → S ≡ R
+pub loaded-inj : {S R : Sheet} → loaded S ≡ loaded R → S ≡ R
 loaded-inj e = cc
 
 refused-loaded : {Q : Type 0} {number line : ℕ} {S : Sheet} → refused number line ≡ loaded S → Q
@@ -211,3 +214,20 @@ read-typed bytes S e = record { changes = λ b inst k from to i. go inst k from 
     go : (inst k : ℕ) (from to : Name) {B : Block} → In B (S .body) ⊎ (B ≡ no-block) → In (change inst k from to) (B .steps) → reference-typed S from ≡ reference-typed S to
     go inst k from to {B} (inl j) i = read-sound bytes S e .changes B j inst k from to i
     go inst k from to {B} (inr p) i = absurd (in-nil (subst (λ (D : Block). In (change inst k from to) (D .steps)) p i))
+
+-- a sheet is answered accepted exactly when it is read and has no fault
+pub accepted-sheet : (rule : Rule) (bytes text : Bytes) → answer rule bytes ≡ accepted text → (S : Sheet) × ((read bytes ≡ loaded S) × (faults rule S ≡ []))
+unfolding answer said-after said-of
+accepted-sheet rule bytes text e = at (read bytes) refl e
+  where
+    none-found : (S : Sheet) → read bytes ≡ loaded S → (ls : List Line) → faults rule S ≡ ls → said-of rule ls ≡ accepted text → (S : Sheet) × ((read bytes ≡ loaded S) × (faults rule S ≡ []))
+    none-found S h [] f g = (S, (h, f))
+    none-found S h (l ∷ ls) f g = let z : _≡_ {A = ℕ} 0 1 = cc in absurd (omega arith)
+
+    at : (o : Reading) → read bytes ≡ o → said-after rule o ≡ accepted text → (S : Sheet) × ((read bytes ≡ loaded S) × (faults rule S ≡ []))
+    at (loaded S) h f = none-found S h (faults rule S) refl f
+    at (refused number line) h f = let z : _≡_ {A = ℕ} 0 1 = cc in absurd (omega arith)
+
+pub sheet-accepted : (rule : Rule) (bytes : Bytes) (S : Sheet) → read bytes ≡ loaded S → faults rule S ≡ [] → answer rule bytes ≡ accepted (report-text rule [])
+unfolding answer said-after said-of
+sheet-accepted rule bytes S h f = ap (said-after rule) h ∙ ap (said-of rule) f
