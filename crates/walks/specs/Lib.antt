@@ -18,6 +18,9 @@ pub mod Above
 pub mod Witness
 pub mod Lines
 pub mod Acceptance
+pub mod Computed
 pub mod OldRule
 pub mod Reading
+pub mod Needed
+pub mod Slips
 pub mod Theorems

@@ -6,14 +6,14 @@ use mathlib.Core.Bool.{Bool, true, false}
 use mathlib.Core.List.{List, [], _∷_}
 use mathlib.Core.Option.{Option, none, some}
 use Prim.Native.Nat.{ℕ}
-use native.Mathlib.Decide.{ℕ-discrete}
-use Rattle.paper.specs.Text.{Name, virtual, name-same}
-use Rattle.paper.specs.Sheet.{Operand, Step, spill, change, operation, safepoint, Block, Sheet, listed, reference-typed}
-use Rattle.paper.specs.Cells.{Cell, conflicted, named, cell-same, meet-names, old-meet, meet, copied, old-changed}
-use Rattle.paper.specs.Steps.{State, get, put, location-of, row-of, unfilled, entry-state, unreached-state, Fault, stack-map-specifies-non-ref-slot, first-of, check-slot, check-slots, check, copy, old-define, old-effect, effect, effects}
-use Rattle.paper.specs.Runs.{Run, update, store, push-at, push, spread, visit-at, step-at, step, run, both, meet-states, cons-same, list-same, state-same, flow, before, begin, visit-bound, analysis}
+use Rattle.paper.specs.Text.{Name, virtual}
+use Rattle.paper.specs.Sheet.{Operand, Step, spill, change, operation, safepoint, Block, Sheet}
+use Rattle.paper.specs.Cells.{Cell, conflicted, named}
+use Rattle.paper.specs.Steps.{State, Fault, stack-map-specifies-non-ref-slot, check, effect}
+use Rattle.paper.specs.Runs.{Run, meet-states, flow, begin, analysis}
 use Rattle.paper.specs.declared.Rule.the-variants.{Old}
-use Rattle.walks.specs.Order.{without, in-order}
+use Rattle.walks.specs.Order.{in-order}
+use Rattle.walks.specs.Computed.{computed}
 
 abbrev pub v0 : Name
 v0 = virtual 0
@@ -33,11 +33,11 @@ slot-holds c = [] ∷ (c ∷ []) ∷ []
 
 -- the effect of the meet, and the meet of the effects
 pub old-effect-of-meet : (ref : Name → Bool) → effect Old ref ownership (meet-states Old (slot-holds (named v0 true)) (slot-holds (named v1 true))) ≡ slot-holds (named v2 false)
-unfolding effect old-effect meet-states both meet old-meet meet-names name-same ℕ-discrete put get old-changed
+unfolding computed
 old-effect-of-meet ref = refl
 
 pub old-meet-of-effects : (ref : Name → Bool) → meet-states Old (effect Old ref ownership (slot-holds (named v0 true))) (effect Old ref ownership (slot-holds (named v1 true))) ≡ slot-holds (named v2 true)
-unfolding effect old-effect meet-states both meet old-meet meet-names name-same ℕ-discrete put get old-changed
+unfolding computed
 old-meet-of-effects ref = refl
 
 abbrev pub defines : Name → Step
@@ -71,17 +71,15 @@ unfoldable pub found-in : Option State → Option Fault
 found-in none = none
 found-in (some s) = check (safepoint 3 (0 ∷ [])) s
 
--- to unfold this is to unfold all that a run computes by
 unfoldable pub end-of : Run State → End
-unfolding found-in without in-order ℕ-discrete name-same listed reference-typed cell-same meet-names old-meet meet copied old-changed get put location-of row-of unfilled entry-state unreached-state first-of check-slot check-slots check copy old-define old-effect effect effects update store push-at push spread visit-at step-at step run both meet-states cons-same list-same state-same flow before begin visit-bound analysis
 end-of r = record { waiting = r .queue; last = r .table 4; found = found-in (r .table 4) }
 
 -- the defined run serves 0 1 2 3 3 4: the slot's name is unmarked, kind 6
 pub first-in-first-out : end-of (analysis Old crossing) ≡ record { waiting = []; last = some ((conflicted ∷ []) ∷ (named v2 false ∷ []) ∷ []); found = some (stack-map-specifies-non-ref-slot 0) }
-unfolding end-of
+unfolding computed end-of found-in
 first-in-first-out = refl
 
 -- block 3 served before block 2: the slot's name is marked, and no fault is found
 pub another-order : end-of (in-order (flow Old crossing) (0 ∷ 1 ∷ 3 ∷ 2 ∷ 4 ∷ 3 ∷ 4 ∷ []) (begin Old crossing)) ≡ record { waiting = []; last = some ((conflicted ∷ []) ∷ (named v2 true ∷ []) ∷ []); found = none }
-unfolding end-of
+unfolding computed end-of found-in
 another-order = refl
