@@ -81,7 +81,7 @@ module _ (S : Sheet) (C : Closed S) where
   walk-in start = C .entry-in
   walk-in (then {b} {s} w m) = C .succs-in b s m
 
-  meets-of : {b : ℕ} {s : State} → Meets (flow House S) b s → MeetOf (λ (w : HouseWalk S b). along (flow House S) w) s
+  pub meets-of : {b : ℕ} {s : State} → Meets (flow House S) b s → MeetOf (λ (w : HouseWalk S b). along (flow House S) w) s
   unfolding flow
   meets-of (one w e) = single w e
   meets-of (two p q e) = joined (meets-of p) (meets-of q) e

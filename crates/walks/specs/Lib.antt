@@ -18,6 +18,7 @@ pub mod Above
 pub mod Witness
 pub mod Lines
 pub mod Acceptance
+pub mod Faults
 pub mod Computed
 pub mod OldRule
 pub mod Reading

@@ -1,17 +1,21 @@
 -- What fails under the old rule. A change of ownership turns Conflicted into an unmarked name and a marked name into a marked one,
 -- though Conflicted is below: its effect does not distribute over the meet. So the order in which blocks are served shows in the
 -- states, and in the report.
-use mathlib.Core.Path.{_≡_, refl}
+use mathlib.Core.Path.{_≡_, refl, ap}
 use mathlib.Core.Bool.{Bool, true, false}
 use mathlib.Core.List.{List, [], _∷_}
 use mathlib.Core.Option.{Option, none, some}
-use Prim.Native.Nat.{ℕ}
+use Prim.Native.Nat.{ℕ, suc, zero, _<_}
+use native.Mathlib.Omega.{arith}
 use Rattle.paper.specs.Text.{Name, virtual}
-use Rattle.paper.specs.Sheet.{Operand, Step, spill, change, operation, safepoint, Block, Sheet}
+use Rattle.paper.specs.Sheet.{Operand, Step, spill, change, operation, safepoint, Block, Sheet, succs-of}
 use Rattle.paper.specs.Cells.{Cell, conflicted, named}
 use Rattle.paper.specs.Steps.{State, Fault, stack-map-specifies-non-ref-slot, check, effect}
 use Rattle.paper.specs.Runs.{Run, meet-states, flow, begin, analysis}
+use Rattle.paper.specs.Walks.{In, here, there}
 use Rattle.paper.specs.declared.Rule.the-variants.{Old}
+use Rattle.walks.specs.Choices.{in-nil}
+use Rattle.walks.specs.Bounds.{Closed}
 use Rattle.walks.specs.Order.{in-order}
 use Rattle.walks.specs.Computed.{computed}
 
@@ -83,3 +87,36 @@ first-in-first-out = refl
 pub another-order : end-of (in-order (flow Old crossing) (0 ∷ 1 ∷ 3 ∷ 2 ∷ 4 ∷ 3 ∷ 4 ∷ []) (begin Old crossing)) ≡ record { waiting = []; last = some ((conflicted ∷ []) ∷ (named v2 true ∷ []) ∷ []); found = none }
 unfolding computed end-of found-in
 another-order = refl
+
+crossing-closed : Closed crossing
+crossing-closed = record { entry-in = omega arith; succs-in = inside }
+  where
+    inside : (b s : ℕ) → In s (succs-of crossing b) → s < 5
+    inside zero s (here e) = omega arith
+    inside zero s (there (here e)) = omega arith
+    inside zero s (there (there i)) = absurd (in-nil i)
+    inside (suc zero) s (here e) = omega arith
+    inside (suc zero) s (there i) = absurd (in-nil i)
+    inside (suc (suc zero)) s (here e) = omega arith
+    inside (suc (suc zero)) s (there i) = absurd (in-nil i)
+    inside (suc (suc (suc zero))) s (here e) = omega arith
+    inside (suc (suc (suc zero))) s (there i) = absurd (in-nil i)
+    inside (suc (suc (suc (suc zero)))) s i = absurd (in-nil i)
+    inside (suc (suc (suc (suc (suc b))))) s i = absurd (in-nil i)
+
+pub old-does-not-distribute : ¬ ((ref : Name → Bool) (x : Step) (s t : State) → effect Old ref x (meet-states Old s t) ≡ meet-states Old (effect Old ref x s) (effect Old ref x t))
+old-does-not-distribute h =
+    let ref : Name → Bool = λ n. true in
+    let e = h ref ownership (slot-holds (named v0 true)) (slot-holds (named v1 true)) in
+    let z : _≡_ {A = ℕ} 0 1 = cc (old-effect-of-meet ref, old-meet-of-effects ref) in
+    omega arith
+
+pub old-order-shows : ¬ ((S : Sheet) → Closed S → (order : List ℕ) → (in-order (flow Old S) order (begin Old S)) .queue ≡ []
+    → (b : ℕ) → (in-order (flow Old S) order (begin Old S)) .table b ≡ (analysis Old S) .table b)
+unfolding end-of
+old-order-shows h =
+    let e = h crossing crossing-closed (0 ∷ 1 ∷ 3 ∷ 2 ∷ 4 ∷ 3 ∷ 4 ∷ []) (ap (λ (e : End). e .waiting) another-order) 4 in
+    let f = ap (λ (e : End). e .last) another-order in
+    let g = ap (λ (e : End). e .last) first-in-first-out in
+    let z : _≡_ {A = ℕ} 0 1 = cc in
+    omega arith

@@ -14,7 +14,7 @@ use Rattle.paper.specs.Sheet.{Step, Sheet, succs-of, steps-of, reference-typed}
 use Rattle.paper.specs.Cells.{Cell, named, meet}
 use Rattle.paper.specs.Steps.{State, effect, effects}
 use Rattle.paper.specs.Runs.{Run, meet-states, flow, begin, spread, step, run, visit-bound, analysis, entered, checked-from}
-use Rattle.paper.specs.Report.{faults, report-text}
+use Rattle.paper.specs.Report.{Line, find-errors, faults, report-text}
 use Rattle.paper.specs.Refusals.{Reading, loaded, read}
 use Rattle.paper.specs.Answer.{Said, accepted, answer}
 use Rattle.paper.specs.Walks.{In, Walk, along, MeetOverWalks, HouseWalk, Acceptance}
@@ -24,12 +24,14 @@ use Rattle.paper.specs.declared.Rule.the-variants.{Old, House}
 use Rattle.walks.specs.Meet.{house-assoc, house-comm, house-idem}
 use Rattle.walks.specs.Effects.{states-assoc, states-comm, states-idem, effect-meet, effects-meet, house-laws}
 use Rattle.walks.specs.Flow.{meet-unique}
-use Rattle.walks.specs.Order.{Served}
+use Rattle.walks.specs.Order.{Served, in-order}
 use Rattle.walks.specs.Bounds.{Closed}
 use Rattle.walks.specs.Loop.{Standing, standing-begin, standing-step, standing-inside, standing-room, standing-below, standing-lengths, analysis-ends, stopped-early}
-use Rattle.walks.specs.House.{house-meet-over-walks, house-reached, house-unreached, house-any-order}
+use Rattle.walks.specs.House.{house-meet-over-walks, house-reached, house-unreached, house-any-order, house-in-order}
 use Rattle.walks.specs.Honest.{Typed, proper-ends}
 use Rattle.walks.specs.Acceptance.{accepted-sentence, acceptance-suffices, equal-reads}
+use Rattle.walks.specs.Faults.{Explained, explained}
+use Rattle.walks.specs.OldRule.{old-does-not-distribute, old-order-shows}
 use Rattle.walks.specs.Reading.{read-closed, read-typed, loaded-inj, accepted-sheet, sheet-accepted}
 
 -- 1. "The house meet is associative, commutative and idempotent", of cells and of states.
@@ -51,13 +53,21 @@ states-commutative = states-comm
 pub states-idempotent : (s : State) → meet-states House s s ≡ s
 states-idempotent = states-idem
 
--- "Every house effect, every block, distributes over it." Under the old rule it does not: OldRule.antt computes a sheet on which
--- the order of serving the blocks shows in the report.
+-- "every house effect, every block, distributes over it"
 pub effect-distributes : (ref : Name → Bool) (x : Step) (s t : State) → effect House ref x (meet-states House s t) ≡ meet-states House (effect House ref x s) (effect House ref x t)
 effect-distributes = effect-meet
 
 pub block-distributes : (ref : Name → Bool) (xs : List Step) (s t : State) → effects House ref xs (meet-states House s t) ≡ meet-states House (effects House ref xs s) (effects House ref xs t)
 block-distributes = effects-meet
+
+-- Under the old rule neither holds: an effect does not distribute, and a finished run that serves the blocks in another order ends
+-- in other states (OldRule.antt has the sheet and both runs, computed; the report differs too).
+pub old-effect-does-not-distribute : ¬ ((ref : Name → Bool) (x : Step) (s t : State) → effect Old ref x (meet-states Old s t) ≡ meet-states Old (effect Old ref x s) (effect Old ref x t))
+old-effect-does-not-distribute = old-does-not-distribute
+
+pub old-answer-depends-on-order : ¬ ((S : Sheet) → Closed S → (order : List ℕ) → (in-order (flow Old S) order (begin Old S)) .queue ≡ []
+    → (b : ℕ) → (in-order (flow Old S) order (begin Old S)) .table b ≡ (analysis Old S) .table b)
+old-answer-depends-on-order = old-order-shows
 
 -- 2. "its queue is empty after at most that many visits": house blocks x (1 + 3 x (regs + slots)), old 1 + blocks x 4 x (regs + slots).
 pub run-ends : (rule : Rule) (S : Sheet) → Closed S → (run (flow rule S) (visit-bound rule S) (begin rule S)) .queue ≡ []
@@ -119,6 +129,11 @@ module _ (S : Sheet) (C : Closed S) where
   pub any-order-ends-the-same : (r : Run State) → Served (flow House S) (begin House S) r → r .queue ≡ [] → (b : ℕ) → r .table b ≡ (analysis House S) .table b
   any-order-ends-the-same = house-any-order S C
 
+  -- so too for the runs of section 1 that serve a list of blocks
+  pub listed-order-ends-the-same : (order : List ℕ) → (in-order (flow House S) order (begin House S)) .queue ≡ []
+      → (b : ℕ) → (in-order (flow House S) order (begin House S)) .table b ≡ (analysis House S) .table b
+  listed-order-ends-the-same = house-in-order S C
+
   -- 4. "House acceptance holds exactly when no allocation is missing, every check passes on every walk and in every unreached block
   -- alone, and no two walks come to the same `P` with different names in a slot it lists".
   pub acceptance : Typed S → (faults House S ≡ []) ↔ Acceptance S
@@ -167,6 +182,11 @@ bytes-acceptance bytes S h = (λ e. said e, λ E. sheet-accepted House bytes S h
         let p : a .0 ≡ S = loaded-inj (sym (a .1 .0) ∙ h) in
         accepted-sentence S (read-closed bytes S h) (read-typed bytes S h) (subst (λ (R : Sheet). faults House R ≡ []) p (a .1 .1))
 
--- 7. Where marks are the names' own, 2 does in place of 3.
+-- 7. Further. Where marks are the names' own, 2 does in place of 3: for every sheet that is read.
 pub read-sheets-end-sooner : (S : Sheet) → Closed S → Typed S → (run (flow House S) (S .blocks * (1 + 2 * (S .regs + S .slots))) (begin House S)) .queue ≡ []
 read-sheets-end-sooner = proper-ends
+
+-- Every fault that the house rule finds is shown by a walk on which that step's check fails, or, kind 7 alone, by two walks; a fault
+-- of an unreached block is its own. `Explained` and `Shown` stand in Faults.antt.
+pub every-fault-is-shown : (S : Sheet) → Closed S → (l : Line) → In l (find-errors House S) → Explained S l
+every-fault-is-shown = explained
