@@ -1,7 +1,7 @@
 -- A check that passes in a state passes in every state above it, and two states above it hold the same names in listed slots: what
 -- is checked once, from a block's state, holds on every walk to the block.
 use mathlib.Core.Path.{_≡_, refl, sym, _∙_, ap, subst}
-use mathlib.Core.Bool.{Bool, true, false, _||_}
+use mathlib.Core.Bool.{Bool, true, _||_}
 use mathlib.Core.List.{List, [], _∷_}
 use mathlib.Core.Option.{none}
 use Prim.Native.Nat.{ℕ}
@@ -13,7 +13,7 @@ use Rattle.paper.specs.Runs.{meet-states}
 use Rattle.paper.specs.Walks.{In, here, there, Passes, SameNames, Alike}
 use Rattle.paper.specs.declared.Rule.the-variants.{House}
 use Rattle.walks.specs.Meet.{house-names, names-meet, absent-left}
-use Rattle.walks.specs.Effects.{states-comm, get-meet, effect-meet}
+use Rattle.walks.specs.Effects.{states-comm, get-meet, effect-distributes}
 use Rattle.walks.specs.Checks.{Holds, Marked, uses-hold, hold-uses, slots-marked, marked-slots, change-holds, holds-change}
 use Rattle.walks.specs.Holding.{absent-named, unknown-named, conflicted-named}
 use Rattle.walks.specs.Fits.{Shape, Fits, house-fits}
@@ -51,12 +51,12 @@ meet-both s t l n h g = record { mark = h .mark || g .mark; is = cc (get-meet s 
 abbrev pub Under : State → State → Type 0
 Under s t = meet-states House s t ≡ s
 
-pub under-holds : (s t : State) → Under s t → (l : Location) (n : Name) → Holds n (get s l) → Holds n (get t l)
+under-holds : (s t : State) → Under s t → (l : Location) (n : Name) → Holds n (get s l) → Holds n (get t l)
 under-holds s t b l n h = meet-right s t l n (subst (λ (u : State). Holds n (get u l)) (sym b) h)
 
 module _ (ref : Name → Bool) (sh : Shape) where
   -- where marks are the names' own, a name that is marked in one state is marked in the other
-  pub same-mark : (s t : State) → Fits (Proper ref) sh s → Fits (Proper ref) sh t → (l : Location) (m : Marked (get s l)) → Holds (m .name) (get t l) → Marked (get t l)
+  same-mark : (s t : State) → Fits (Proper ref) sh s → Fits (Proper ref) sh t → (l : Location) (m : Marked (get s l)) → Holds (m .name) (get t l) → Marked (get t l)
   same-mark s t f g l m h =
       record { name = m .name; is = h .is ∙ ap (named (m .name)) (own-mark ref sh t g l (m .name) (h .mark) (h .is) ∙ sym (own-mark ref sh s f l (m .name) true (m .is))) }
 
@@ -72,8 +72,8 @@ module _ (ref : Name → Bool) (sh : Shape) where
       above : (k : ℕ) → Marked (get s (slot k)) → Marked (get t (slot k))
       above k m = same-mark s t f g (slot k) m (under-holds s t b (slot k) (m .name) (record { mark = true; is = m .is }))
 
-  pub effect-under : (x : Step) (s t : State) → Under s t → Under (effect House ref x s) (effect House ref x t)
-  effect-under x s t b = sym (effect-meet ref x s t) ∙ ap (effect House ref x) b
+  effect-under : (x : Step) (s t : State) → Under s t → Under (effect House ref x s) (effect House ref x t)
+  effect-under x s t b = sym (effect-distributes ref x s t) ∙ ap (effect House ref x) b
 
   pub passes-above : (xs : List Step) (s t : State) → ((inst k : ℕ) (from to : Name) → In (change inst k from to) xs → SameType ref from to)
       → Under s t → Fits (Proper ref) sh s → Fits (Proper ref) sh t → Passes ref xs s → Passes ref xs t

@@ -2,29 +2,29 @@
 -- on each walk, since a walk's state is above the meet; and where every walk passes, alike, so does the meet, which is made of
 -- finitely many walks.
 use mathlib.Core.Path.{_≡_, refl, sym, _∙_, ap, subst}
-use mathlib.Core.Logic.{_↔_, _⊎_, inl, inr}
-use mathlib.Core.Bool.{Bool, true, false}
+use mathlib.Core.Logic.{_⊎_, inl, inr}
+use mathlib.Core.Bool.{Bool, false}
 use mathlib.Core.List.{List, [], _∷_, _++_}
 use mathlib.Core.Option.{Option, none, some}
 use Prim.Native.Nat.{ℕ, suc, zero, _<_}
 use native.Mathlib.Omega.{arith}
 use lib.ListN.{getD, replicate}
 use Rattle.paper.specs.Text.{Name, real}
-use Rattle.paper.specs.Sheet.{Step, change, Sheet, succs-of, steps-of, reference-typed}
+use Rattle.paper.specs.Sheet.{Step, change, Sheet, steps-of, reference-typed}
 use Rattle.paper.specs.Cells.{Cell, absent, unknown, named}
-use Rattle.paper.specs.Steps.{State, Location, register, slot, nowhere, get, row-of, unfilled, entry-state, unreached-state, effect, effects}
-use Rattle.paper.specs.Runs.{flow, meet-states, analysis, entered, checked-from}
+use Rattle.paper.specs.Steps.{State, register, slot, nowhere, get, row-of, unfilled, entry-state, unreached-state, effect, effects}
+use Rattle.paper.specs.Runs.{flow, analysis, entered, checked-from}
 use Rattle.paper.specs.Report.{missing-allocations, faults}
-use Rattle.paper.specs.Walks.{In, here, there, Walk, start, then, along, HouseWalk, trail, Passes, Alike, Acceptance}
-use Rattle.paper.specs.Programs.{World, Original, Allocated, original-run, allocated-run, EqualReads}
+use Rattle.paper.specs.Walks.{In, start, then, along, HouseWalk, trail, Passes, Alike, Acceptance}
+use Rattle.paper.specs.Programs.{World, Original, Allocated, EqualReads}
 use Rattle.paper.specs.declared.Rule.the-variants.{House}
 use Rattle.walks.specs.Choices.{some-inj, in-append, in-nil}
 use Rattle.walks.specs.Flow.{Meets, one, two}
 use Rattle.walks.specs.Bounds.{Closed}
 use Rattle.walks.specs.House.{house-good, house-meet-over-walks, house-reached, house-unreached}
 use Rattle.walks.specs.Holding.{absent-named, unknown-named}
-use Rattle.walks.specs.Fits.{shape, Fits}
-use Rattle.walks.specs.Honest.{Typed, Proper, SameType, walk-proper, meets-proper}
+use Rattle.walks.specs.Fits.{shape}
+use Rattle.walks.specs.Honest.{Typed, SameType, walk-proper, meets-proper}
 use Rattle.walks.specs.Above.{Under, passes-above, alike-above}
 use Rattle.walks.specs.Witness.{MeetOf, single, joined, passes-meet}
 use Rattle.walks.specs.Lines.{BlocksPass, no-faults}

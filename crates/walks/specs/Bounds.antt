@@ -1,24 +1,24 @@
 -- The visit bounds of both rules: the heights of cells under each meet, and with them both runs as instances of the generic bound.
-use mathlib.Core.Path.{_≡_, refl, sym, _∙_, ap, subst}
+use mathlib.Core.Path.{_≡_, refl}
 use mathlib.Core.Bool.{Bool, true, false, _||_}
-use mathlib.Core.List.{List, [], _∷_, _++_, map}
-use mathlib.Core.Option.{Option, none, some}
-use Prim.Native.Nat.{ℕ, suc, zero, _+_, _*_, _-_, _≤_, _<_}
+use mathlib.Core.List.{[], _∷_, map}
+use mathlib.Core.Option.{some}
+use Prim.Native.Nat.{ℕ, suc, zero, _+_, _*_, _≤_, _<_}
 use native.Mathlib.Nat.{mul-suc, mul-add}
 use native.Mathlib.Omega.{arith}
 use lib.ListN.{length, replicate}
 use Rattle.paper.specs.Text.{Name, real, name-same}
 use Rattle.paper.specs.Sheet.{Sheet, succs-of, steps-of, reference-typed}
 use Rattle.paper.specs.Cells.{Cell, absent, unknown, conflicted, named, cell-same, pick, meet-names, old-meet, house-meet, meet, copied, overwritten, house-changed, collected}
-use Rattle.paper.specs.Steps.{State, unfilled, entry-state, unreached-state, effects}
-use Rattle.paper.specs.Runs.{Flow, Run, both, meet-states, flow, before, begin, step, run, visit-bound, analysis, spread}
-use Rattle.paper.specs.Walks.{In, here, there}
+use Rattle.paper.specs.Steps.{State, unfilled, unreached-state, effects}
+use Rattle.paper.specs.Runs.{Run, both, meet-states, flow, before, begin, visit-bound}
+use Rattle.paper.specs.Walks.{In}
 use Rattle.paper.specs.declared.Rule.{Rule}
 use Rattle.paper.specs.declared.Rule.the-variants.{Old, House}
 use Rattle.walks.specs.Heights.{Each, sum, Graded, graded-list}
-use Rattle.walks.specs.Meet.{names-meet}
-use Rattle.walks.specs.Fits.{shape, Row, Fits, fits-lengths, fits-entry, fits-unreached, HouseKeeps, house-fits-all, Any, old-fits-all}
-use Rattle.walks.specs.Visits.{Ranked, Within, start, within-unvisited, within-visited, within-ends}
+use Rattle.walks.specs.Meet.{names-meet, meet-keeps}
+use Rattle.walks.specs.Fits.{shape, Row, Fits, fits-lengths, fits-entry, fits-unreached, HouseKeeps, house-fits-all, old-fits-all}
+use Rattle.walks.specs.Visits.{Ranked, Within, start, within-unvisited, within-visited}
 
 -- how far a cell can still fall: under the house rule Absent never occurs
 unfoldable pub height : Rule → Cell → ℕ
@@ -102,16 +102,7 @@ old-falls (named n false) conflicted h = omega arith
 old-falls (named n m) (named k l) h = names-fall Old n k m l h
 
 present-meet : (x y : Cell) → Present x → Present y → Present (meet House x y)
-unfolding meet house-meet
-present-meet unknown unknown a b = tt
-present-meet unknown conflicted a b = tt
-present-meet unknown (named k l) a b = tt
-present-meet conflicted unknown a b = tt
-present-meet conflicted conflicted a b = tt
-present-meet conflicted (named k l) a b = tt
-present-meet (named n m) unknown a b = tt
-present-meet (named n m) conflicted a b = tt
-present-meet (named n m) (named k l) a b = names-meet n k m l Present (λ e. tt) (λ e. tt)
+present-meet = meet-keeps Present (λ n k m l p q. names-meet n k m l Present (λ e. tt) (λ e. tt))
 
 graded-cells : (rule : Rule) → Graded (meet rule) (λ (u : Unit {0}). Occurs rule) (height rule) (λ u. top rule)
 unfolding meet

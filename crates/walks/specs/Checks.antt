@@ -1,6 +1,6 @@
 -- What a passed check says of the state: each use's register and the changed slot hold their names, each listed slot holds a marked
 -- name. Both ways, so that acceptance can be taken apart and put together.
-use mathlib.Core.Path.{_≡_, refl, sym, _∙_, ap, subst}
+use mathlib.Core.Path.{_≡_, refl, sym, subst}
 use mathlib.Core.Bool.{Bool, true, false, _||_}
 use mathlib.Core.List.{List, [], _∷_}
 use mathlib.Core.Option.{Option, none, some}

@@ -46,7 +46,7 @@ get-meet s t (register i) = cell-meet s t 0 i
 get-meet s t (slot i) = cell-meet s t 1 i
 get-meet s t nowhere = sym (absent-left absent)
 
-pub put-meet : (l : Location) (x y : Cell) (s t : State) → put l (meet House x y) (meet-states House s t) ≡ meet-states House (put l x s) (put l y t)
+put-meet : (l : Location) (x y : Cell) (s t : State) → put l (meet House x y) (meet-states House s t) ≡ meet-states House (put l x s) (put l y t)
 unfolding put
 put-meet (register i) x y s t = store-meet 0 i x y s t
 put-meet (slot i) x y s t = store-meet 1 i x y s t
@@ -77,12 +77,12 @@ module _ (ref : Name → Bool) where
       ap (house-define ref ds) (cc (everywhere-meet f (overwritten-spreads (d .name)) s t, house-idem c, put-meet l c c (everywhere f s) (everywhere f t)))
       ∙ define-meet ds (put l c (everywhere f s)) (put l c (everywhere f t))
 
-  pub effect-meet : (x : Step) → Spreads (meet-states House) (effect House ref x)
+  pub effect-distributes : (x : Step) → Spreads (meet-states House) (effect House ref x)
   unfolding effect house-effect meet-states
-  effect-meet (spill k r) s t = copy-meet (slot k) (register r) s t
-  effect-meet (reload r k) s t = copy-meet (register r) (slot k) s t
-  effect-meet (move into from) s t = copy-meet (register into) (register from) s t
-  effect-meet (change inst k from to) s t =
+  effect-distributes (spill k r) s t = copy-meet (slot k) (register r) s t
+  effect-distributes (reload r k) s t = copy-meet (register r) (slot k) s t
+  effect-distributes (move into from) s t = copy-meet (register into) (register from) s t
+  effect-distributes (change inst k from to) s t =
       let f = overwritten to in
       let g = house-changed from to in
       cc (
@@ -91,13 +91,13 @@ module _ (ref : Name → Bool) where
         everywhere-meet f (overwritten-spreads to) s t,
         put-meet (slot k) (g (get s (slot k))) (g (get t (slot k))) (everywhere f s) (everywhere f t),
       )
-  effect-meet (operation inst uses defs) s t = define-meet defs s t
-  effect-meet (safepoint inst slots) s t = both-placed (both (meet House)) (safepoint-row House slots) (collect-meet slots) s t
+  effect-distributes (operation inst uses defs) s t = define-meet defs s t
+  effect-distributes (safepoint inst slots) s t = both-placed (both (meet House)) (safepoint-row House slots) (collect-meet slots) s t
 
-  pub effects-meet : (xs : List Step) → Spreads (meet-states House) (effects House ref xs)
+  pub effects-distribute : (xs : List Step) → Spreads (meet-states House) (effects House ref xs)
   unfolding effects
-  effects-meet [] s t = refl
-  effects-meet (x ∷ xs) s t = ap (effects House ref xs) (effect-meet x s t) ∙ effects-meet xs (effect House ref x s) (effect House ref x t)
+  effects-distribute [] s t = refl
+  effects-distribute (x ∷ xs) s t = ap (effects House ref xs) (effect-distributes x s t) ∙ effects-distribute xs (effect House ref x s) (effect House ref x t)
 
 pub house-laws : (S : Sheet) → Laws (flow House S)
 unfolding flow
@@ -105,5 +105,5 @@ house-laws S = record {
   assoc = states-assoc;
   comm = states-comm;
   idem = states-idem;
-  distributes = λ b. effects-meet (reference-typed S) (steps-of S b);
+  distributes = λ b. effects-distribute (reference-typed S) (steps-of S b);
 }

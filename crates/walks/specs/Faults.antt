@@ -10,7 +10,7 @@ use native.Mathlib.Omega.{arith}
 use lib.ListN.{length}
 use Rattle.paper.specs.Text.{Name}
 use Rattle.paper.specs.Sheet.{Step, spill, reload, move, change, operation, safepoint, Sheet, steps-of, reference-typed}
-use Rattle.paper.specs.Cells.{Cell, absent, unknown, conflicted, named, meet}
+use Rattle.paper.specs.Cells.{Cell, absent, unknown, conflicted, named}
 use Rattle.paper.specs.Steps.{State, Location, slot, get, unreached-state, Fault, first-of, check-slot, check-slots, check, effect, effects}
 use Rattle.paper.specs.Runs.{meet-states, flow, analysis, entered, checked-from}
 use Rattle.paper.specs.Report.{Line, line-of, faults-from, block-faults, by-block, find-errors, kind-of}
@@ -19,7 +19,7 @@ use Rattle.paper.specs.declared.Rule.the-variants.{House}
 use Rattle.walks.specs.Choices.{some-not-none, in-nil, in-append}
 use Rattle.walks.specs.Meet.{house-names}
 use Rattle.walks.specs.Effects.{get-meet}
-use Rattle.walks.specs.Checks.{Holds, Marked, slots-marked}
+use Rattle.walks.specs.Checks.{slots-marked}
 use Rattle.walks.specs.Above.{meet-left, meet-right}
 use Rattle.walks.specs.Witness.{MeetOf, single, joined, Witness, one-fails, two-differ, witness, meet-of-effect}
 use Rattle.walks.specs.Bounds.{Closed}
@@ -72,7 +72,7 @@ module _ {I : Type 0} (σ : I → State) where
   some-unmarked l n (joined {x = u} {y = v} p q e) h = some-unmarked l n p (unmarked-left u v l n (ap (λ (s : State). get s l) e ∙ h))
 
   -- a fault in a meet: the check fails in one state of the family, or the fault is of kind 7 and two states differ
-  pub shown : (x : Step) {a : State} → MeetOf σ a → (f : Fault) → check x a ≡ some f → Shown x σ f
+  shown : (x : Step) {a : State} → MeetOf σ a → (f : Fault) → check x a ≡ some f → Shown x σ f
   unfolding check SameNames
   shown (spill k r) m f e = absurd (some-not-none refl e)
   shown (reload r k) m f e = absurd (some-not-none refl e)

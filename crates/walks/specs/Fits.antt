@@ -7,8 +7,8 @@ use mathlib.Core.List.{List, [], _∷_, map}
 use Prim.Native.Nat.{ℕ, suc, zero}
 use lib.ListN.{length, getD, set, replicate, length-replicate, List·getD-map}
 use Rattle.paper.specs.Text.{Name, real}
-use Rattle.paper.specs.Sheet.{Operand, Step, spill, reload, move, change, operation, safepoint, Sheet, listed, steps-of, reference-typed}
-use Rattle.paper.specs.Cells.{Cell, absent, unknown, conflicted, named, copied, overwritten, house-changed, old-changed, collected}
+use Rattle.paper.specs.Sheet.{Operand, Step, spill, reload, move, change, operation, safepoint, Sheet, listed}
+use Rattle.paper.specs.Cells.{Cell, absent, unknown, named, copied, overwritten, house-changed, old-changed, collected}
 use Rattle.paper.specs.Steps.{State, Location, register, slot, nowhere, cell-at, store-at, get, put, location-of, row-of, unfilled, entry-state, unreached-state, copy, everywhere, placed, safepoint-row, old-define, house-define, old-effect, house-effect, effect, effects}
 use Rattle.paper.specs.Walks.{In, here, there}
 use Rattle.paper.specs.declared.Rule.{Rule}
@@ -157,7 +157,7 @@ module _ (ref : Name → Bool) (sh : Shape) where
   old-fits-define [] s f = f
   old-fits-define (d ∷ ds) s f = old-fits-define ds _ (fits-put sh (location-of (d .reg)) (named (d .name) (ref (d .name))) tt s f)
 
-  pub old-fits : (x : Step) (s : State) → Fits Any sh s → Fits Any sh (effect Old ref x s)
+  old-fits : (x : Step) (s : State) → Fits Any sh s → Fits Any sh (effect Old ref x s)
   unfolding effect old-effect
   old-fits (spill k r) s f = fits-copy sh tt (λ c p. tt) (slot k) (register r) s f
   old-fits (reload r k) s f = fits-copy sh tt (λ c p. tt) (register r) (slot k) s f

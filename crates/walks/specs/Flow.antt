@@ -5,7 +5,7 @@ use mathlib.Core.Path.{_≡_, refl, sym, _∙_, ap, subst}
 use mathlib.Core.Logic.{_⊎_, inl, inr}
 use mathlib.Core.List.{List, [], _∷_, _++_}
 use mathlib.Core.Option.{Option, none, some}
-use Prim.Native.Nat.{ℕ, suc, zero}
+use Prim.Native.Nat.{ℕ}
 use native.Mathlib.Decide.{ℕ-discrete}
 use Rattle.paper.specs.Cells.{pick}
 use Rattle.paper.specs.Runs.{Flow, Run, update, store, push-at, push, spread}
@@ -44,13 +44,13 @@ record Mid {A : Type 0} (F : Flow A) (x : A) (pending : List ℕ) (r : Run A) : 
   fresh : (s : ℕ) → In s pending → Meets F s x
 
 module _ {A : Type 0} (F : Flow A) (L : Laws F) where
-  pub below-trans : {x y z : A} → Below F x y → Below F y z → Below F x z
+  below-trans : {x y z : A} → Below F x y → Below F y z → Below F x z
   below-trans {x} {y} {z} p q = cc (L .assoc x y z)
 
-  pub below-left : (x y : A) → Below F (F .meet x y) x
+  below-left : (x y : A) → Below F (F .meet x y) x
   below-left x y = cc (L .assoc x y x, L .comm y x, L .assoc x x y, L .idem x)
 
-  pub below-right : (x y : A) → Below F (F .meet x y) y
+  below-right : (x y : A) → Below F (F .meet x y) y
   below-right x y = cc (L .assoc x y y, L .idem y)
 
   below-meet : (x y z : A) → Below F x y → Below F x z → Below F x (F .meet y z)
@@ -199,7 +199,7 @@ module _ {A : Type 0} (F : Flow A) (L : Laws F) where
 
   -- at an empty queue
   module _ (r : Run A) (g : Good F r) (done : r .queue ≡ []) where
-    pub walked : {b : ℕ} (w : Walk F b) → Covered F (r .table) b (along F w)
+    walked : {b : ℕ} (w : Walk F b) → Covered F (r .table) b (along F w)
     unfolding along
     walked start = g .rooted
     walked (then {b} {s} w m) =

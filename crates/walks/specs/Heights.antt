@@ -1,6 +1,6 @@
 -- How far the elements of a list can still fall under a meet, for any type of elements: what is known of elements is lifted to
 -- lists of them, so a row of cells and a state's list of rows are lifted by the same law.
-use mathlib.Core.Path.{_≡_, refl, sym, ap, ap₂, _∙_}
+use mathlib.Core.Path.{_≡_, refl, ap, ap₂}
 use mathlib.Core.Logic.{_⊎_, inl, inr}
 use mathlib.Core.HLevel.{Discrete}
 use mathlib.Core.List.{List, [], _∷_, map}
@@ -16,7 +16,7 @@ pub data Each {I A : Type 0} (P : I → A → Type 0) : List I → List A → Ty
   each-cons : {i : I} {x : A} {is : List I} {xs : List A} → P i x → Each P is xs → Each P (i ∷ is) (x ∷ xs)
 
 module _ {I A : Type 0} {P : I → A → Type 0} where
-  pub each-length : {is : List I} {xs : List A} → Each P is xs → length xs ≡ length is
+  each-length : {is : List I} {xs : List A} → Each P is xs → length xs ≡ length is
   each-length each-nil = refl
   each-length (each-cons p ps) = ap suc (each-length ps)
 

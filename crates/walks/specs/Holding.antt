@@ -1,6 +1,6 @@
 -- Where a name comes from: if a cell holds a name after a change of the state, then the cell that it was made from held it, or the
 -- name was just put there.
-use mathlib.Core.Path.{_≡_, refl, sym, _∙_, ap, subst}
+use mathlib.Core.Path.{_≡_, refl, sym, _∙_, ap}
 use mathlib.Core.Bool.{Bool, true, false, cond}
 use mathlib.Core.List.{List, [], _∷_, map}
 use Prim.Native.Nat.{ℕ, suc, zero}

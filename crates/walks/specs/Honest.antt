@@ -1,21 +1,21 @@
 -- Marks are the names' own: a cell that holds a name has the mark that `T` gives the name. It holds on every walk of a sheet whose
 -- changes keep the type (refusal 8), and real names start unmarked, as `T` leaves them. Then a name cannot lose height by its
 -- mark alone, and two visits a cell are enough where three were counted.
-use mathlib.Core.Path.{_≡_, refl, sym, _∙_, ap, subst}
+use mathlib.Core.Path.{_≡_, refl, sym, _∙_, subst}
 use mathlib.Core.Logic.{_⊎_, inl, inr}
-use mathlib.Core.Bool.{Bool, true, false, _||_, or-self}
-use mathlib.Core.List.{List, [], _∷_}
+use mathlib.Core.Bool.{Bool, true, false, or-self}
+use mathlib.Core.List.{[]}
 use Prim.Native.Nat.{ℕ, _+_, _*_, _≤_, _<_}
 use native.Mathlib.Omega.{arith}
-use Rattle.paper.specs.Text.{Name, real, name-same}
+use Rattle.paper.specs.Text.{Name, name-same}
 use Rattle.paper.specs.Sheet.{change, Sheet, steps-of, reference-typed}
 use Rattle.paper.specs.Cells.{Cell, absent, unknown, conflicted, named, cell-same, pick, house-meet, meet, copied, overwritten, house-changed, collected}
 use Rattle.paper.specs.Steps.{State, Location, get, unfilled}
-use Rattle.paper.specs.Runs.{Flow, Run, meet-states, flow, before, begin, run}
-use Rattle.paper.specs.Walks.{In, HouseWalk, Walk, start, then, along}
+use Rattle.paper.specs.Runs.{meet-states, flow, before, begin, run}
+use Rattle.paper.specs.Walks.{In, HouseWalk, start, then, along}
 use Rattle.paper.specs.declared.Rule.the-variants.{House}
 use Rattle.walks.specs.Heights.{sum, Graded, graded-list}
-use Rattle.walks.specs.Meet.{names-meet, house-names}
+use Rattle.walks.specs.Meet.{names-meet, meet-keeps}
 use Rattle.walks.specs.Flow.{Meets, one, two}
 use Rattle.walks.specs.Visits.{Ranked, within-unvisited, within-ends}
 use Rattle.walks.specs.Visits as Visits
@@ -89,16 +89,7 @@ module _ (ref : Name → Bool) where
   height-high x = elim x [ absent ↦ omega arith | unknown ↦ omega arith | conflicted ↦ omega arith | named n m ↦ omega arith ]
 
   proper-meet : (x y : Cell) → Proper ref x → Proper ref y → Proper ref (meet House x y)
-  unfolding meet house-meet
-  proper-meet unknown unknown p q = tt
-  proper-meet unknown conflicted p q = tt
-  proper-meet unknown (named k l) p q = tt
-  proper-meet conflicted unknown p q = tt
-  proper-meet conflicted conflicted p q = tt
-  proper-meet conflicted (named k l) p q = tt
-  proper-meet (named n m) unknown p q = tt
-  proper-meet (named n m) conflicted p q = tt
-  proper-meet (named n m) (named k l) p q = names-meet n k m l (Proper ref) (λ e. cc (or-self m)) (λ e. tt)
+  proper-meet = meet-keeps (Proper ref) (λ n k m l p q. names-meet n k m l (Proper ref) (λ e. cc (or-self m)) (λ e. tt))
 
   proper-falls : (x y : Cell) → Proper ref x → Proper ref y → ¬ (meet House x y ≡ x) → height (meet House x y) < height x
   unfolding meet house-meet height
@@ -147,8 +138,8 @@ module _ (S : Sheet) (C : Closed S) (T : Typed S) where
   meets-proper (two {x} {y} p q e) = subst (Fits (Proper (reference-typed S)) (shape S)) e (ranked .fit-meet x y (meets-proper p) (meets-proper q))
 
   -- the run of such a sheet ends within blocks x (1 + 2 x (regs + slots)) visits
-  pub proper-ends : (run (flow House S) (S .blocks * (1 + 2 * (S .regs + S .slots))) (begin House S)) .queue ≡ []
+  pub typed-run-ends : (run (flow House S) (S .blocks * (1 + 2 * (S .regs + S .slots))) (begin House S)) .queue ≡ []
   unfolding ranked begin before flow Visits.start
-  proper-ends =
+  typed-run-ends =
       let bound = S .blocks * (1 + 2 * (S .regs + S .slots)) in
       within-ends ranked {bound = bound} bound {k = 0} (begin House S) (rw (← suc-is (2 * (S .regs + S .slots))) (within-unvisited ranked)) (omega arith)

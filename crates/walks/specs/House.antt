@@ -2,7 +2,7 @@
 -- of serving the blocks ends at the same table.
 use mathlib.Core.Path.{_≡_, refl}
 use mathlib.Core.List.{List, [], _∷_}
-use mathlib.Core.Option.{Option, none, some}
+use mathlib.Core.Option.{none, some}
 use Prim.Native.Nat.{ℕ}
 use Rattle.paper.specs.Sheet.{Sheet}
 use Rattle.paper.specs.Steps.{State}

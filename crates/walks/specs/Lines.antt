@@ -1,6 +1,6 @@
 -- No line is reported exactly when no allocation is missing and every block passes its checks, each from the state that the
 -- analysis gives it.
-use mathlib.Core.Path.{_≡_, refl, sym, _∙_, ap, subst}
+use mathlib.Core.Path.{_≡_, refl, sym, subst}
 use mathlib.Core.Logic.{_↔_}
 use mathlib.Core.List.{List, [], _∷_, _++_, nil≢cons}
 use mathlib.Core.Option.{Option, none, some}

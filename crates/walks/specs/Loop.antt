@@ -1,10 +1,10 @@
 -- What code that runs a rule needs: the invariant `Standing` of its loop over the queue, with k the visits so far. It holds at the
 -- start, after each visit, and inside a visit between two pushes; it bounds the queue's length; and a run whose queue is empty is
 -- the whole analysis.
-use mathlib.Core.Path.{_≡_, refl, sym, _∙_, ap, subst}
+use mathlib.Core.Path.{_≡_, sym, _∙_, ap}
 use mathlib.Core.List.{List, [], _∷_, _++_, map}
-use mathlib.Core.Option.{Option, none, some}
-use Prim.Native.Nat.{ℕ, suc, zero, _+_, _-_, _≤_, _<_}
+use mathlib.Core.Option.{some}
+use Prim.Native.Nat.{ℕ, suc, _+_, _≤_, _<_}
 use native.Mathlib.Nat.{add-comm}
 use native.Mathlib.Omega.{arith}
 use lib.ListN.{length}
@@ -13,8 +13,8 @@ use Rattle.paper.specs.Steps.{State, effects}
 use Rattle.paper.specs.Runs.{Run, flow, begin, spread, step, run, visit-bound, analysis}
 use Rattle.paper.specs.Walks.{In}
 use Rattle.paper.specs.declared.Rule.{Rule}
-use Rattle.walks.specs.Order.{run-suc, run-add, run-still}
-use Rattle.walks.specs.Visits.{Within, within-queue, within-take, within-visit, within-step, within-ends}
+use Rattle.walks.specs.Order.{run-add, run-still}
+use Rattle.walks.specs.Visits.{Within, within-queue, within-visit, within-step, within-ends}
 use Rattle.walks.specs.Bounds.{Closed, ranked, within-begin, within-lengths}
 
 module _ (rule : Rule) (S : Sheet) (C : Closed S) where

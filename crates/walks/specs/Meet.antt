@@ -2,10 +2,9 @@
 -- a copy, a name overwritten elsewhere, a changed slot, a collection. No side condition: the laws hold for Absent too.
 use mathlib.Core.Path.{_≡_, refl, sym, _∙_, ap}
 use mathlib.Core.Bool.{Bool, true, false, cond, _||_, or-assoc, or-comm, or-self}
-use Prim.Native.Nat.{ℕ}
 use Rattle.paper.specs.Text.{Name, name-same}
 use Rattle.paper.specs.Cells.{Cell, absent, unknown, conflicted, named, pick, meet-names, house-meet, meet, copied, overwritten, house-changed, collected}
-use Rattle.paper.specs.declared.Rule.the-variants.{Old, House}
+use Rattle.paper.specs.declared.Rule.the-variants.{House}
 use Rattle.walks.specs.Choices.{pick-yes, pick-no}
 use Rattle.walks.specs.Rows.{Spreads}
 
@@ -13,7 +12,7 @@ pub house-names : (n : Name) (m l : Bool) → meet House (named n m) (named n l)
 unfolding meet house-meet meet-names
 house-names n m l = pick-yes (name-same n n) (named n (m || l)) conflicted refl
 
-pub house-apart : (n k : Name) (m l : Bool) → ¬ (n ≡ k) → meet House (named n m) (named k l) ≡ conflicted
+house-apart : (n k : Name) (m l : Bool) → ¬ (n ≡ k) → meet House (named n m) (named k l) ≡ conflicted
 unfolding meet house-meet meet-names
 house-apart n k m l h = pick-no (name-same n k) (named n (m || l)) conflicted h
 
@@ -77,6 +76,23 @@ house-assoc (named n m) (named k l) (named j p) = names (name-same n k) (name-sa
     names (yes d) (no e) = cc (house-names n m l, house-apart n j (m || l) p (λ f. e (sym d ∙ f)), house-apart k j l p e)
     names (no d) (yes e) = cc (house-apart n k m l d, house-names k l p, house-apart n k m (l || p) d)
     names (no d) (no e) = cc (house-apart n k m l d, house-apart k j l p e)
+
+-- a meet is one of its sides, unless both are names
+pub meet-keeps : (P : Cell → Type 0) → ((n k : Name) (m l : Bool) → P (named n m) → P (named k l) → P (meet House (named n m) (named k l))) → (x y : Cell) → P x → P y → P (meet House x y)
+unfolding meet house-meet
+meet-keeps P names absent y p q = elim y [ absent ↦ p | unknown ↦ p | conflicted ↦ p | named k l ↦ p ]
+meet-keeps P names unknown absent p q = q
+meet-keeps P names unknown unknown p q = p
+meet-keeps P names unknown conflicted p q = p
+meet-keeps P names unknown (named k l) p q = p
+meet-keeps P names conflicted absent p q = q
+meet-keeps P names conflicted unknown p q = q
+meet-keeps P names conflicted conflicted p q = p
+meet-keeps P names conflicted (named k l) p q = p
+meet-keeps P names (named n m) absent p q = q
+meet-keeps P names (named n m) unknown p q = q
+meet-keeps P names (named n m) conflicted p q = q
+meet-keeps P names (named n m) (named k l) p q = names n k m l p q
 
 -- A function of cells that keeps the order of the kinds, and that makes the same of two names as of Conflicted, distributes.
 record Ordered (f : Cell → Cell) : Type 0 where

@@ -8,7 +8,7 @@ use mathlib.Core.Option.{Option, none, some}
 use Prim.Native.Nat.{ℕ, suc, zero, _<_}
 use native.Mathlib.Omega.{arith}
 use Rattle.paper.specs.Text.{Name, virtual}
-use Rattle.paper.specs.Sheet.{Operand, Step, spill, change, operation, safepoint, Block, Sheet, succs-of}
+use Rattle.paper.specs.Sheet.{Step, spill, change, operation, safepoint, Sheet, succs-of}
 use Rattle.paper.specs.Cells.{Cell, conflicted, named}
 use Rattle.paper.specs.Steps.{State, Fault, stack-map-specifies-non-ref-slot, check, effect}
 use Rattle.paper.specs.Runs.{Run, meet-states, flow, begin, analysis}

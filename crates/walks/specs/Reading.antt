@@ -12,11 +12,11 @@ use lib.Dec.{eqb, leb, ltb}
 use lib.ListN.{length, getD}
 use borrow.Author.Tests.{leb-false, not-false}
 use Rattle.paper.specs.Text.{Bytes, lines, fields, Name, real, virtual}
-use Rattle.paper.specs.Sheet.{Step, spill, reload, move, change, operation, safepoint, Block, Sheet, no-block, succs-of, steps-of, listed, reference-typed}
+use Rattle.paper.specs.Sheet.{Step, change, Block, Sheet, no-block, listed, reference-typed}
 use Rattle.paper.specs.Limits.{max-regs, max-slots, max-vregs, max-blocks}
 use Rattle.paper.specs.Refusals.{Record, function-record, typed-record, block-record, step-record, record-of, any, empty, out-of-place, beyond-limit, types-differ, so-far-of, Condition, first-holding, conditions, add-step, add-record, Reading, loaded, refused, Lined, good, bad, judged, read-record, read-line, read-end, carry-on, read-lines, no-text, read}
 use Rattle.paper.specs.Report.{Line, faults, report-text}
-use Rattle.paper.specs.Answer.{Said, accepted, faulty, turned-away, said-of, said-after, answer}
+use Rattle.paper.specs.Answer.{accepted, said-of, said-after, answer}
 use Rattle.paper.specs.Walks.{In, here, there}
 use Rattle.paper.specs.declared.Rule.{Rule}
 use Rattle.walks.specs.Choices.{in-nil, in-append, some-not-none}

@@ -1,6 +1,6 @@
 -- Laws of lists combined place by place, for any type of elements: a row of cells and a state's list of rows are two instances
 -- of the same laws. `both` cuts at the shorter list, so no law needs a length.
-use mathlib.Core.Path.{_≡_, refl, sym, ap, _∙_}
+use mathlib.Core.Path.{_≡_, refl, sym}
 use mathlib.Core.List.{List, [], _∷_, map}
 use Prim.Native.Nat.{ℕ, zero, suc}
 use lib.ListN.{getD, set}

@@ -1,7 +1,7 @@
 -- Five slips in the house rule, each beside the right definition, and for each a computed sheet on which a theorem is then false.
 -- `Variant` says where they differ; `house` is the rule itself (`house-effects`).
 use mathlib.Core.Path.{_≡_, refl, ap, fun-ext}
-use mathlib.Core.Bool.{Bool, true, false, cond}
+use mathlib.Core.Bool.{Bool, false, cond}
 use mathlib.Core.List.{List, [], _∷_, map}
 use mathlib.Core.Option.{Option, none, some}
 use Prim.Native.Nat.{ℕ, suc, zero, _+_}
@@ -107,14 +107,18 @@ v0 = virtual 0
 abbrev pub v1 : Name
 v1 = virtual 1
 
+abbrev pub v2 : Name
+v2 = virtual 2
+
 abbrev pub defines : Name → ℕ → Step
 defines n r = operation 0 [] (record { name = n; reg = some r } ∷ [])
 
 abbrev pub uses : Name → ℕ → Step
 uses n r = operation 1 (record { name = n; reg = some r } ∷ []) []
 
+-- v1 alone is reference-typed
 abbrev pub sheet-of : ℕ → ℕ → List Block → Sheet
-sheet-of regs slots body = record { regs = regs; slots = slots; vregs = 2; blocks = length body; entry = 0; typed = 1 ∷ []; body = body }
+sheet-of regs slots body = record { regs = regs; slots = slots; vregs = 3; blocks = length body; entry = 0; typed = 1 ∷ []; body = body }
 
 -- 1. Stale copies made Unknown. r1 holds v0 on one branch and v1 on the other, Conflicted where they join; then v0 is written in
 -- r0. Served with one branch alone, r1 becomes Unknown, and stays so; served after both it stays Conflicted. The states depend on
@@ -195,51 +199,52 @@ pub the-walk-fails : found-by unknown-neutral (reference-typed unfilled-branch) 
 unfolding computed-by
 the-walk-fails = refl
 
--- steps whose checks all pass under a slip, and what the two programs read on them: an operation gives its place, the collector
--- adds 10
+-- an operation gives its place, the collector adds 10
 abbrev pub placing : World
 placing = record { Value = ℕ; results = λ place values def. place; collect = λ place v. v + 10 }
 
--- 4. A change of ownership that leaves other copies of the new name: r0 still holds v1, whose value the change has replaced.
+-- what the checks of some steps find from the entry state, and what the two programs read on them from equal values
+pub record Walked : Type 0 where
+  pub found : List (Option Fault)
+  pub original : List (List ℕ)
+  pub allocated : List (List ℕ)
+
+unfoldable pub walked-by : Variant → Sheet → List Step → Walked
+unfolding computed-by
+walked-by how S xs = record {
+  found = found-by how (reference-typed S) xs (entry-state House S);
+  original = original-run placing (reference-typed S) 0 xs (λ n. 0);
+  allocated = allocated-run placing 0 xs (λ l. 0);
+}
+
+-- 4. A change of ownership that leaves other copies of the new name: r0 still holds v2, whose value the change has replaced. Every
+-- check passes, and the use reads 1 and 0.
 abbrev pub copies-left : Variant
 copies-left = record { at-definition = overwritten; at-change = λ n c. c; unlisted = collected House; meet = house-meet; unvisited = λ S. none }
 
-abbrev pub untyped : Name → Bool
-untyped n = false
-
 abbrev pub changed-steps : List Step
-changed-steps = defines v1 0 ∷ defines v0 1 ∷ spill 0 1 ∷ change 2 0 v0 v1 ∷ uses v1 0 ∷ []
+changed-steps = defines v2 0 ∷ defines v0 1 ∷ spill 0 1 ∷ change 2 0 v0 v2 ∷ uses v2 0 ∷ []
 
-pub slip-passes-the-copy : found-by copies-left untyped changed-steps (entry-state House (sheet-of 2 1 [])) ≡ none ∷ none ∷ none ∷ none ∷ none ∷ []
-unfolding computed-by
-slip-passes-the-copy = refl
+pub slip-trusts-the-copy : walked-by copies-left (sheet-of 2 1 []) changed-steps
+    ≡ record { found = none ∷ none ∷ none ∷ none ∷ none ∷ []; original = [] ∷ [] ∷ [] ∷ [] ∷ (1 ∷ []) ∷ []; allocated = [] ∷ [] ∷ [] ∷ [] ∷ (0 ∷ []) ∷ [] }
+unfolding walked-by
+slip-trusts-the-copy = refl
 
-pub original-reads-the-copy : original-run placing untyped 0 changed-steps (λ n. 0) ≡ [] ∷ [] ∷ [] ∷ [] ∷ (1 ∷ []) ∷ []
-unfolding computed
-original-reads-the-copy = refl
-
-pub allocated-reads-the-copy : allocated-run placing 0 changed-steps (λ l. 0) ≡ [] ∷ [] ∷ [] ∷ [] ∷ (0 ∷ []) ∷ []
-unfolding computed
-allocated-reads-the-copy = refl
-
--- 5. A safepoint that keeps a marked name in a slot that it does not list: the collector has moved v1, and the slot has not.
+-- 5. A safepoint that keeps a marked name in a slot that it does not list: the collector has moved v1, and the slot has not. Every
+-- check passes, and the use reads 10 and 0.
 abbrev pub slots-kept : Variant
 slots-kept = record { at-definition = overwritten; at-change = overwritten; unlisted = λ c. c; meet = house-meet; unvisited = λ S. none }
 
 abbrev pub kept-steps : List Step
 kept-steps = defines v1 0 ∷ spill 0 0 ∷ safepoint 3 [] ∷ reload 0 0 ∷ uses v1 0 ∷ []
 
-abbrev pub v1-typed : Name → Bool
-v1-typed = reference-typed (sheet-of 1 1 [])
+pub slip-trusts-the-slot : walked-by slots-kept (sheet-of 2 1 []) kept-steps
+    ≡ record { found = none ∷ none ∷ none ∷ none ∷ none ∷ []; original = [] ∷ [] ∷ [] ∷ [] ∷ (10 ∷ []) ∷ []; allocated = [] ∷ [] ∷ [] ∷ [] ∷ (0 ∷ []) ∷ [] }
+unfolding walked-by
+slip-trusts-the-slot = refl
 
-pub slip-passes-the-slot : found-by slots-kept v1-typed kept-steps (entry-state House (sheet-of 1 1 [])) ≡ none ∷ none ∷ none ∷ none ∷ none ∷ []
-unfolding computed-by
-slip-passes-the-slot = refl
-
-pub original-reads-the-slot : original-run placing v1-typed 0 kept-steps (λ n. 0) ≡ [] ∷ [] ∷ [] ∷ [] ∷ (10 ∷ []) ∷ []
-unfolding computed
-original-reads-the-slot = refl
-
-pub allocated-reads-the-slot : allocated-run placing 0 kept-steps (λ l. 0) ≡ [] ∷ [] ∷ [] ∷ [] ∷ (0 ∷ []) ∷ []
-unfolding computed
-allocated-reads-the-slot = refl
+-- the house rule finds a fault at either use
+pub house-finds-both : map (λ xs. (walked-by house (sheet-of 2 1 []) xs) .found) (changed-steps ∷ kept-steps ∷ [])
+    ≡ (none ∷ none ∷ none ∷ none ∷ some (unknown-value-in-reg (some 0)) ∷ []) ∷ (none ∷ none ∷ none ∷ none ∷ some (unknown-value-in-reg (some 0)) ∷ []) ∷ []
+unfolding walked-by
+house-finds-both = refl

@@ -2,104 +2,112 @@
 -- of blocks, registers, slots and steps; no limit of document 01 is used. `Closed S` says that the entry and all successors are
 -- blocks, `Typed S` that no `C` stands between names that differ in being reference-typed (refusal 8): section 6 has both of every
 -- sheet that is read. That real names are never reference-typed stands in the definition of `reference-typed`.
-use mathlib.Core.Path.{_≡_, refl, sym, _∙_, ap, subst}
+use mathlib.Core.Path.{_≡_, refl, sym, _∙_, subst}
 use mathlib.Core.Logic.{_↔_}
-use mathlib.Core.Bool.{Bool, true, false}
+use mathlib.Core.Bool.{Bool}
 use mathlib.Core.List.{List, [], _∷_, _++_, map}
 use mathlib.Core.Option.{Option, none, some}
 use Prim.Native.Nat.{ℕ, suc, _+_, _*_, _≤_, _<_}
 use lib.ListN.{length}
 use Rattle.paper.specs.Text.{Bytes, Name}
 use Rattle.paper.specs.Sheet.{Step, Sheet, succs-of, steps-of, reference-typed}
-use Rattle.paper.specs.Cells.{Cell, named, meet}
+use Rattle.paper.specs.Cells.{Cell, meet}
 use Rattle.paper.specs.Steps.{State, effect, effects}
 use Rattle.paper.specs.Runs.{Run, meet-states, flow, begin, spread, step, run, visit-bound, analysis, entered, checked-from}
 use Rattle.paper.specs.Report.{Line, find-errors, faults, report-text}
-use Rattle.paper.specs.Refusals.{Reading, loaded, read}
-use Rattle.paper.specs.Answer.{Said, accepted, answer}
-use Rattle.paper.specs.Walks.{In, Walk, along, MeetOverWalks, HouseWalk, Acceptance}
+use Rattle.paper.specs.Refusals.{loaded, read}
+use Rattle.paper.specs.Answer.{accepted, answer}
+use Rattle.paper.specs.Walks.{In, MeetOverWalks, HouseWalk, Acceptance}
 use Rattle.paper.specs.Programs.{EqualReads}
 use Rattle.paper.specs.declared.Rule.{Rule}
 use Rattle.paper.specs.declared.Rule.the-variants.{Old, House}
-use Rattle.walks.specs.Meet.{house-assoc, house-comm, house-idem}
-use Rattle.walks.specs.Effects.{states-assoc, states-comm, states-idem, effect-meet, effects-meet, house-laws}
-use Rattle.walks.specs.Flow.{meet-unique}
 use Rattle.walks.specs.Order.{Served, in-order}
 use Rattle.walks.specs.Bounds.{Closed}
-use Rattle.walks.specs.Loop.{Standing, standing-begin, standing-step, standing-inside, standing-room, standing-below, standing-lengths, analysis-ends, stopped-early}
-use Rattle.walks.specs.House.{house-meet-over-walks, house-reached, house-unreached, house-any-order, house-in-order}
-use Rattle.walks.specs.Honest.{Typed, proper-ends}
-use Rattle.walks.specs.Acceptance.{accepted-sentence, acceptance-suffices, equal-reads}
-use Rattle.walks.specs.Faults.{Explained, explained}
-use Rattle.walks.specs.OldRule.{old-does-not-distribute, old-order-shows}
-use Rattle.walks.specs.Reading.{read-closed, read-typed, loaded-inj, accepted-sheet, sheet-accepted}
+use Rattle.walks.specs.Honest.{Typed}
+use Rattle.walks.specs.Loop.{Standing}
+use Rattle.walks.specs.Faults.{Explained}
+use Rattle.walks.specs.Meet
+use Rattle.walks.specs.Effects
+use Rattle.walks.specs.Flow
+use Rattle.walks.specs.Loop
+use Rattle.walks.specs.House as Ends
+use Rattle.walks.specs.Honest
+use Rattle.walks.specs.Acceptance as Accepting
+use Rattle.walks.specs.Faults
+use Rattle.walks.specs.OldRule
+use Rattle.walks.specs.Reading
 
 -- 1. "The house meet is associative, commutative and idempotent", of cells and of states.
-pub cells-associative : (x y z : Cell) → meet House (meet House x y) z ≡ meet House x (meet House y z)
-cells-associative = house-assoc
+pub house-assoc : (x y z : Cell) → meet House (meet House x y) z ≡ meet House x (meet House y z)
+house-assoc = Meet.house-assoc
 
-pub cells-commutative : (x y : Cell) → meet House x y ≡ meet House y x
-cells-commutative = house-comm
+pub house-comm : (x y : Cell) → meet House x y ≡ meet House y x
+house-comm = Meet.house-comm
 
-pub cells-idempotent : (x : Cell) → meet House x x ≡ x
-cells-idempotent = house-idem
+pub house-idem : (x : Cell) → meet House x x ≡ x
+house-idem = Meet.house-idem
 
-pub states-associative : (s t u : State) → meet-states House (meet-states House s t) u ≡ meet-states House s (meet-states House t u)
-states-associative = states-assoc
+pub states-assoc : (s t u : State) → meet-states House (meet-states House s t) u ≡ meet-states House s (meet-states House t u)
+states-assoc = Effects.states-assoc
 
-pub states-commutative : (s t : State) → meet-states House s t ≡ meet-states House t s
-states-commutative = states-comm
+pub states-comm : (s t : State) → meet-states House s t ≡ meet-states House t s
+states-comm = Effects.states-comm
 
-pub states-idempotent : (s : State) → meet-states House s s ≡ s
-states-idempotent = states-idem
+pub states-idem : (s : State) → meet-states House s s ≡ s
+states-idem = Effects.states-idem
 
 -- "every house effect, every block, distributes over it"
 pub effect-distributes : (ref : Name → Bool) (x : Step) (s t : State) → effect House ref x (meet-states House s t) ≡ meet-states House (effect House ref x s) (effect House ref x t)
-effect-distributes = effect-meet
+effect-distributes = Effects.effect-distributes
 
-pub block-distributes : (ref : Name → Bool) (xs : List Step) (s t : State) → effects House ref xs (meet-states House s t) ≡ meet-states House (effects House ref xs s) (effects House ref xs t)
-block-distributes = effects-meet
+pub effects-distribute : (ref : Name → Bool) (xs : List Step) (s t : State) → effects House ref xs (meet-states House s t) ≡ meet-states House (effects House ref xs s) (effects House ref xs t)
+effects-distribute = Effects.effects-distribute
 
 -- Under the old rule neither holds: an effect does not distribute, and a finished run that serves the blocks in another order ends
 -- in other states (OldRule.antt has the sheet and both runs, computed; the report differs too).
-pub old-effect-does-not-distribute : ¬ ((ref : Name → Bool) (x : Step) (s t : State) → effect Old ref x (meet-states Old s t) ≡ meet-states Old (effect Old ref x s) (effect Old ref x t))
-old-effect-does-not-distribute = old-does-not-distribute
+pub old-does-not-distribute : ¬ ((ref : Name → Bool) (x : Step) (s t : State) → effect Old ref x (meet-states Old s t) ≡ meet-states Old (effect Old ref x s) (effect Old ref x t))
+old-does-not-distribute = OldRule.old-does-not-distribute
 
-pub old-answer-depends-on-order : ¬ ((S : Sheet) → Closed S → (order : List ℕ) → (in-order (flow Old S) order (begin Old S)) .queue ≡ []
+pub old-order-shows : ¬ ((S : Sheet) → Closed S → (order : List ℕ) → (in-order (flow Old S) order (begin Old S)) .queue ≡ []
     → (b : ℕ) → (in-order (flow Old S) order (begin Old S)) .table b ≡ (analysis Old S) .table b)
-old-answer-depends-on-order = old-order-shows
+old-order-shows = OldRule.old-order-shows
 
--- 2. "its queue is empty after at most that many visits": house blocks x (1 + 3 x (regs + slots)), old 1 + blocks x 4 x (regs + slots).
-pub run-ends : (rule : Rule) (S : Sheet) → Closed S → (run (flow rule S) (visit-bound rule S) (begin rule S)) .queue ≡ []
-unfolding analysis
-run-ends rule S C = analysis-ends rule S C
+-- 2. "The visit bounds are of the defined run: its queue is empty after at most that many visits."
+pub house-run-ends : (S : Sheet) → Closed S → (run (flow House S) (S .blocks * (1 + 3 * (S .regs + S .slots))) (begin House S)) .queue ≡ []
+unfolding analysis visit-bound
+house-run-ends = Loop.analysis-ends House
 
--- For code. `Standing rule S C k r` holds at the start, after each visit, and inside a visit after each push.
+pub old-run-ends : (S : Sheet) → Closed S → (run (flow Old S) (1 + S .blocks * (4 * (S .regs + S .slots))) (begin Old S)) .queue ≡ []
+unfolding analysis visit-bound
+old-run-ends = Loop.analysis-ends Old
+
+-- For code, under either rule. `Standing rule S C k r` says that r is a run of the sheet in which k visits have begun: it holds at
+-- the start, after each visit, and inside a visit after each push.
 module _ (rule : Rule) (S : Sheet) (C : Closed S) where
-  pub at-the-start : Standing rule S C 0 (begin rule S)
-  at-the-start = standing-begin rule S C
+  pub standing-begin : Standing rule S C 0 (begin rule S)
+  standing-begin = Loop.standing-begin rule S C
 
-  pub after-a-visit : {k : ℕ} {r : Run State} → Standing rule S C k r → (b : ℕ) (queue : List ℕ) → r .queue ≡ b ∷ queue → Standing rule S C (suc k) (step (flow rule S) r)
-  after-a-visit h = standing-step rule S C h
+  pub standing-step : {k : ℕ} {r : Run State} → Standing rule S C k r → (b : ℕ) (queue : List ℕ) → r .queue ≡ b ∷ queue → Standing rule S C (suc k) (step (flow rule S) r)
+  standing-step h = Loop.standing-step rule S C h
 
-  pub inside-a-visit : {k : ℕ} {r : Run State} → Standing rule S C k r → (b : ℕ) (queue : List ℕ) (s : State) (pushed rest : List ℕ)
+  pub standing-inside : {k : ℕ} {r : Run State} → Standing rule S C k r → (b : ℕ) (queue : List ℕ) (s : State) (pushed rest : List ℕ)
       → r .queue ≡ b ∷ queue → r .table b ≡ some s → succs-of S b ≡ pushed ++ rest
       → Standing rule S C (suc k) (spread (flow rule S) pushed (effects rule (reference-typed S) (steps-of S b) s) (record { table = r .table; queue = queue }))
-  inside-a-visit h = standing-inside rule S C h
+  standing-inside h = Loop.standing-inside rule S C h
 
   -- visits so far and blocks waiting never pass the bound; a waiting block is a block; states have as many cells as `F` counts
-  pub visits-and-waiting : {k : ℕ} {r : Run State} → Standing rule S C k r → k + length (r .queue) ≤ visit-bound rule S
-  visits-and-waiting h = standing-room rule S C h
+  pub standing-room : {k : ℕ} {r : Run State} → Standing rule S C k r → k + length (r .queue) ≤ visit-bound rule S
+  standing-room h = Loop.standing-room rule S C h
 
-  pub waiting-are-blocks : {k : ℕ} {r : Run State} → Standing rule S C k r → (b : ℕ) → In b (r .queue) → b < S .blocks
-  waiting-are-blocks h = standing-below rule S C h
+  pub standing-below : {k : ℕ} {r : Run State} → Standing rule S C k r → (b : ℕ) → In b (r .queue) → b < S .blocks
+  standing-below h = Loop.standing-below rule S C h
 
-  pub row-lengths : {k : ℕ} {r : Run State} → Standing rule S C k r → (b : ℕ) (s : State) → r .table b ≡ some s → map length s ≡ S .regs ∷ S .slots ∷ []
-  row-lengths h = standing-lengths rule S C h
+  pub standing-lengths : {k : ℕ} {r : Run State} → Standing rule S C k r → (b : ℕ) (s : State) → r .table b ≡ some s → map length s ≡ S .regs ∷ S .slots ∷ []
+  standing-lengths h = Loop.standing-lengths rule S C h
 
   -- a run that stops because its queue is empty is the whole analysis
-  pub stopping-early : (k : ℕ) → (run (flow rule S) k (begin rule S)) .queue ≡ [] → run (flow rule S) k (begin rule S) ≡ analysis rule S
-  stopping-early = stopped-early rule S C
+  pub stopped-early : (k : ℕ) → (run (flow rule S) k (begin rule S)) .queue ≡ [] → run (flow rule S) k (begin rule S) ≡ analysis rule S
+  stopped-early = Loop.stopped-early rule S C
 
 module _ (S : Sheet) (C : Closed S) where
   -- 3. "the state that each reached block is checked from is the meet over all finite walks from the entry". Nothing here asks that
@@ -109,47 +117,48 @@ module _ (S : Sheet) (C : Closed S) where
   meet-over-all-walks b w = at ((analysis House S) .table b) refl
     where
       at : (t : Option State) → (analysis House S) .table b ≡ t → MeetOverWalks (flow House S) b (entered House S ((analysis House S) .table b))
-      at none e = absurd (house-unreached S C b e w)
-      at (some s) e = subst (λ (t : Option State). MeetOverWalks (flow House S) b (entered House S t)) (sym e) (house-meet-over-walks S C b s e)
+      at none e = absurd (Ends.house-unreached S C b e w)
+      at (some s) e = subst (λ (t : Option State). MeetOverWalks (flow House S) b (entered House S t)) (sym e) (Ends.house-meet-over-walks S C b s e)
 
   -- "it is unique"
-  pub one-meet-over-all-walks : (b : ℕ) (s t : State) → MeetOverWalks (flow House S) b s → MeetOverWalks (flow House S) b t → s ≡ t
-  one-meet-over-all-walks = meet-unique (flow House S) (house-laws S)
+  pub meet-unique : (b : ℕ) (s t : State) → MeetOverWalks (flow House S) b s → MeetOverWalks (flow House S) b t → s ≡ t
+  meet-unique = Flow.meet-unique (flow House S) (Effects.house-laws S)
 
   -- "visited blocks are exactly the reached ones"
   pub visited-are-reached : (b : ℕ) → ((s : State) × ((analysis House S) .table b ≡ some s)) ↔ HouseWalk S b
-  visited-are-reached b = (λ v. house-reached S C b (v .0) (v .1), λ w. at w ((analysis House S) .table b) refl)
+  visited-are-reached b = (λ v. Ends.house-reached S C b (v .0) (v .1), λ w. at w ((analysis House S) .table b) refl)
     where
       at : HouseWalk S b → (t : Option State) → (analysis House S) .table b ≡ t → (s : State) × ((analysis House S) .table b ≡ some s)
-      at w none e = absurd (house-unreached S C b e w)
+      at w none e = absurd (Ends.house-unreached S C b e w)
       at w (some s) e = (s, e)
 
   -- "any finished run that serves the blocks in another order ends in the same states": `Served` (Order.antt) lets the next block,
   -- the order of its successors and of the waiting blocks be chosen anew at each visit
-  pub any-order-ends-the-same : (r : Run State) → Served (flow House S) (begin House S) r → r .queue ≡ [] → (b : ℕ) → r .table b ≡ (analysis House S) .table b
-  any-order-ends-the-same = house-any-order S C
+  pub house-any-order : (r : Run State) → Served (flow House S) (begin House S) r → r .queue ≡ [] → (b : ℕ) → r .table b ≡ (analysis House S) .table b
+  house-any-order = Ends.house-any-order S C
 
   -- so too for the runs of section 1 that serve a list of blocks
-  pub listed-order-ends-the-same : (order : List ℕ) → (in-order (flow House S) order (begin House S)) .queue ≡ []
+  pub house-in-order : (order : List ℕ) → (in-order (flow House S) order (begin House S)) .queue ≡ []
       → (b : ℕ) → (in-order (flow House S) order (begin House S)) .table b ≡ (analysis House S) .table b
-  listed-order-ends-the-same = house-in-order S C
+  house-in-order = Ends.house-in-order S C
 
   -- 4. "House acceptance holds exactly when no allocation is missing, every check passes on every walk and in every unreached block
-  -- alone, and no two walks come to the same `P` with different names in a slot it lists".
+  -- alone, and no two walks come to the same `P` with different names in a slot it lists (that is kind 7)."
   pub acceptance : Typed S → (faults House S ≡ []) ↔ Acceptance S
-  acceptance T = (accepted-sentence S C T, acceptance-suffices S C)
+  acceptance T = (Accepting.accepted-sentence S C T, Accepting.acceptance-suffices S C)
 
-  -- 5. "along every walk, its last block's own steps included", the two programs "read equal values at every use"
+  -- 5. "along every walk, its last block's own steps included, the original and the allocated program .. read equal values at every
+  -- use, for any type of values, any results function of place and values read, any collector"
   pub accepted-reads-equal : Typed S → faults House S ≡ [] → EqualReads S
-  accepted-reads-equal T e = equal-reads S C T (accepted-sentence S C T e)
+  accepted-reads-equal T e = Accepting.equal-reads S C T (acceptance T .0 e)
 
 -- 6. The same from bytes. Refusal 5 gives `Closed`, refusals 4 and 8 `Typed`; no other refusal is used. Needed.antt computes sheets
 -- on which acceptance and equal reads fail without refusal 8, and with a reference-typed real name.
-pub read-sheets-are-closed : (bytes : Bytes) (S : Sheet) → read bytes ≡ loaded S → Closed S
-read-sheets-are-closed = read-closed
+pub read-closed : (bytes : Bytes) (S : Sheet) → read bytes ≡ loaded S → Closed S
+read-closed = Reading.read-closed
 
-pub read-sheets-are-typed : (bytes : Bytes) (S : Sheet) → read bytes ≡ loaded S → Typed S
-read-sheets-are-typed = read-typed
+pub read-typed : (bytes : Bytes) (S : Sheet) → read bytes ≡ loaded S → Typed S
+read-typed = Reading.read-typed
 
 -- what is known of bytes that are accepted under the house rule
 pub record AcceptedBytes (bytes : Bytes) : Type 1 where
@@ -161,32 +170,34 @@ pub record AcceptedBytes (bytes : Bytes) : Type 1 where
 
 pub accepted-bytes : (bytes text : Bytes) → answer House bytes ≡ accepted text → AcceptedBytes bytes
 accepted-bytes bytes text e =
-    let a = accepted-sheet House bytes text e in
+    let a = Reading.accepted-sheet House bytes text e in
     let C = read-closed bytes (a .0) (a .1 .0) in
     let T = read-typed bytes (a .0) (a .1 .0) in
     record {
       sheet = a .0;
       is-read = a .1 .0;
       meets = meet-over-all-walks (a .0) C;
-      sentence = accepted-sentence (a .0) C T (a .1 .1);
+      sentence = acceptance (a .0) C T .0 (a .1 .1);
       reads = accepted-reads-equal (a .0) C T (a .1 .1);
     }
 
 -- and bytes that are read are accepted exactly when the sentence holds of their sheet
 pub bytes-acceptance : (bytes : Bytes) (S : Sheet) → read bytes ≡ loaded S → (answer House bytes ≡ accepted (report-text House [])) ↔ Acceptance S
-bytes-acceptance bytes S h = (λ e. said e, λ E. sheet-accepted House bytes S h (acceptance-suffices S (read-closed bytes S h) E))
+bytes-acceptance bytes S h = (said, λ E. Reading.sheet-accepted House bytes S h (exactly .1 E))
   where
+    exactly : (faults House S ≡ []) ↔ Acceptance S
+    exactly = acceptance S (read-closed bytes S h) (read-typed bytes S h)
+
     said : answer House bytes ≡ accepted (report-text House []) → Acceptance S
     said e =
-        let a = accepted-sheet House bytes (report-text House []) e in
-        let p : a .0 ≡ S = loaded-inj (sym (a .1 .0) ∙ h) in
-        accepted-sentence S (read-closed bytes S h) (read-typed bytes S h) (subst (λ (R : Sheet). faults House R ≡ []) p (a .1 .1))
+        let a = Reading.accepted-sheet House bytes (report-text House []) e in
+        exactly .0 (subst (λ (R : Sheet). faults House R ≡ []) (Reading.loaded-inj (sym (a .1 .0) ∙ h)) (a .1 .1))
 
--- 7. Further. Where marks are the names' own, 2 does in place of 3: for every sheet that is read.
-pub read-sheets-end-sooner : (S : Sheet) → Closed S → Typed S → (run (flow House S) (S .blocks * (1 + 2 * (S .regs + S .slots))) (begin House S)) .queue ≡ []
-read-sheets-end-sooner = proper-ends
+-- 7. Further. Where marks are the names' own, as they are in every sheet that is read, 2 does in place of 3.
+pub typed-run-ends : (S : Sheet) → Closed S → Typed S → (run (flow House S) (S .blocks * (1 + 2 * (S .regs + S .slots))) (begin House S)) .queue ≡ []
+typed-run-ends = Honest.typed-run-ends
 
 -- Every fault that the house rule finds is shown by a walk on which that step's check fails, or, kind 7 alone, by two walks; a fault
 -- of an unreached block is its own. `Explained` and `Shown` stand in Faults.antt.
-pub every-fault-is-shown : (S : Sheet) → Closed S → (l : Line) → In l (find-errors House S) → Explained S l
-every-fault-is-shown = explained
+pub explained : (S : Sheet) → Closed S → (l : Line) → In l (find-errors House S) → Explained S l
+explained = Faults.explained

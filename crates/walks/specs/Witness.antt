@@ -2,20 +2,19 @@
 -- lists. So steps that pass in all of them, alike, pass in the meet.
 use mathlib.Core.Path.{_≡_, refl, sym, _∙_, ap, subst}
 use mathlib.Core.Logic.{_⊎_, inl, inr}
-use mathlib.Core.Bool.{Bool, true, false}
+use mathlib.Core.Bool.{Bool, true}
 use mathlib.Core.List.{List, [], _∷_}
 use mathlib.Core.Option.{Option, none, some}
 use Prim.Native.Nat.{ℕ}
 use Rattle.paper.specs.Text.{Name, name-same}
 use Rattle.paper.specs.Sheet.{Step, spill, reload, move, change, operation, safepoint}
-use Rattle.paper.specs.Cells.{named, meet}
 use Rattle.paper.specs.Steps.{State, Location, slot, get, location-of, Fault, check, effect}
 use Rattle.paper.specs.Runs.{meet-states}
 use Rattle.paper.specs.Walks.{In, here, there, Passes, SameNames, Alike}
 use Rattle.paper.specs.declared.Rule.the-variants.{House}
 use Rattle.walks.specs.Choices.{some-not-none, in-nil}
 use Rattle.walks.specs.Meet.{house-names}
-use Rattle.walks.specs.Effects.{get-meet, effect-meet}
+use Rattle.walks.specs.Effects.{get-meet, effect-distributes}
 use Rattle.walks.specs.Checks.{Holds, Marked, uses-hold, hold-uses, slots-marked, marked-slots, change-holds, holds-change}
 use Rattle.walks.specs.Above.{meet-left, meet-both}
 
@@ -127,7 +126,7 @@ module _ {I : Type 0} (σ : I → State) where
 pub meet-of-effect : {I : Type 0} (ref : Name → Bool) (x : Step) (σ : I → State) {a : State} → MeetOf σ a → MeetOf (λ i. effect House ref x (σ i)) (effect House ref x a)
 meet-of-effect ref x σ (single i e) = single i (ap (effect House ref x) e)
 meet-of-effect ref x σ (joined {x = u} {y = v} p q e) =
-    joined (meet-of-effect ref x σ p) (meet-of-effect ref x σ q) (sym (effect-meet ref x u v) ∙ ap (effect House ref x) e)
+    joined (meet-of-effect ref x σ p) (meet-of-effect ref x σ q) (sym (effect-distributes ref x u v) ∙ ap (effect House ref x) e)
 
 -- steps that pass in every state of the family, and find the same names in listed slots, pass in the meet
 pub passes-meet : {I : Type 0} (ref : Name → Bool) (xs : List Step) (σ : I → State) {a : State} → MeetOf σ a
