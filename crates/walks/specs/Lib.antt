@@ -1,27 +1,35 @@
+-- any dataflow problem: its runs, their end, their length
 pub mod Choices
-pub mod Rows
-pub mod Heights
+pub mod Running
 pub mod Flow
 pub mod Order
 pub mod Visits
+-- rows of any elements
+pub mod Rows
+pub mod Heights
+-- the two rules
 pub mod Meet
 pub mod Effects
 pub mod Fits
 pub mod Bounds
 pub mod Loop
+pub mod House
+-- checks, walks and programs
 pub mod Checks
 pub mod Holding
 pub mod Honest
 pub mod Simulation
-pub mod House
 pub mod Above
 pub mod Witness
 pub mod Lines
 pub mod Acceptance
 pub mod Faults
+-- sheets that are read
+pub mod Reading
+-- computed sheets
 pub mod Computed
 pub mod OldRule
-pub mod Reading
 pub mod Needed
 pub mod Slips
+-- the statements together
 pub mod Theorems

@@ -1,20 +1,21 @@
 -- What code that runs a rule needs: the invariant `Standing` of its loop over the queue, with k the visits so far. It holds at the
 -- start, after each visit, and inside a visit between two pushes; it bounds the queue's length; and a run whose queue is empty is
 -- the whole analysis.
-use mathlib.Core.Path.{_≡_, sym, _∙_, ap}
+use mathlib.Core.Path.{_≡_, refl, sym, _∙_, ap, subst}
 use mathlib.Core.List.{List, [], _∷_, _++_, map}
-use mathlib.Core.Option.{some}
+use mathlib.Core.Option.{Option, none, some}
 use Prim.Native.Nat.{ℕ, suc, _+_, _≤_, _<_}
 use native.Mathlib.Nat.{add-comm}
 use native.Mathlib.Omega.{arith}
 use lib.ListN.{length}
 use Rattle.paper.specs.Sheet.{Sheet, succs-of, steps-of, reference-typed}
 use Rattle.paper.specs.Steps.{State, effects}
-use Rattle.paper.specs.Runs.{Run, flow, begin, spread, step, run, visit-bound, analysis}
+use Rattle.paper.specs.Runs.{Run, flow, begin, spread, step, run, visit-bound, analysis, entered, checked-from}
 use Rattle.paper.specs.Walks.{In}
 use Rattle.paper.specs.declared.Rule.{Rule}
-use Rattle.walks.specs.Order.{run-add, run-still}
-use Rattle.walks.specs.Visits.{Within, within-queue, within-visit, within-step, within-ends}
+use Rattle.walks.specs.Running.{run-add, run-still}
+use Rattle.walks.specs.Visits.{Within, within-queue, within-visit, within-step, within-run, within-ends}
+use Rattle.walks.specs.Fits.{Any, fits-lengths, fits-unreached}
 use Rattle.walks.specs.Bounds.{Closed, ranked, within-begin, within-lengths}
 
 module _ (rule : Rule) (S : Sheet) (C : Closed S) where
@@ -29,6 +30,10 @@ module _ (rule : Rule) (S : Sheet) (C : Closed S) where
     -- every waiting block is a block
     pub standing-below : (b : ℕ) → In b (r .queue) → b < S .blocks
     standing-below = h .within .below
+
+    -- and it has a state
+    pub standing-visited : (b : ℕ) → In b (r .queue) → (s : State) × (r .table b ≡ some s)
+    standing-visited = h .within .visited
 
     -- every state in the table has as many cells as the sheet counts
     pub standing-lengths : (b : ℕ) (s : State) → r .table b ≡ some s → map length s ≡ S .regs ∷ S .slots ∷ []
@@ -46,6 +51,17 @@ module _ (rule : Rule) (S : Sheet) (C : Closed S) where
 
   pub standing-begin : Standing 0 (begin rule S)
   standing-begin = record { within = within-begin rule S C }
+
+  -- the state that a block is checked from has as many cells as the sheet counts
+  pub checked-lengths : (b : ℕ) → map length (checked-from rule S b) ≡ S .regs ∷ S .slots ∷ []
+  unfolding checked-from entered analysis
+  checked-lengths b = at ((analysis rule S) .table b) refl
+    where
+      at : (t : Option State) → (analysis rule S) .table b ≡ t → map length (entered rule S ((analysis rule S) .table b)) ≡ S .regs ∷ S .slots ∷ []
+      at none e = subst (λ (t : Option State). map length (entered rule S t) ≡ S .regs ∷ S .slots ∷ []) (sym e) (fits-lengths {P = Any} S (fits-unreached S rule tt))
+      at (some s) e =
+          let g = within-run (ranked rule S C) (visit-bound rule S) (begin rule S) (within-begin rule S C) in
+          subst (λ (t : Option State). map length (entered rule S t) ≡ S .regs ∷ S .slots ∷ []) (sym e) (within-lengths rule S C (visit-bound rule S) (g .0) (analysis rule S) (g .1) b s e)
 
   -- the analysis is done: its queue is empty
   pub analysis-ends : (analysis rule S) .queue ≡ []

@@ -1,10 +1,9 @@
 -- Runs that serve the blocks in any order, and the run of document 01 as one of them: all that finish hold the same table.
-use mathlib.Core.Path.{_≡_, refl, _∙_, ap, subst}
+use mathlib.Core.Path.{_≡_, refl, _∙_, subst}
 use mathlib.Core.Logic.{_⊎_, inl, inr, ⊎-map}
 use mathlib.Core.List.{List, [], _∷_}
 use mathlib.Core.Option.{Option, none, some}
-use Prim.Native.Nat.{ℕ, suc, zero, _+_}
-use native.Mathlib.Nat.{zero-add, suc-add}
+use Prim.Native.Nat.{ℕ, suc, zero}
 use native.Mathlib.Decide.{ℕ-discrete}
 use Rattle.paper.specs.Cells.{pick}
 use Rattle.paper.specs.Runs.{Flow, Run, spread, visit-at, step-at, step, run}
@@ -30,23 +29,6 @@ module _ {A : Type 0} (F : Flow A) where
   unfoldable pub in-order : List ℕ → Run A → Run A
   in-order [] r = r
   in-order (b ∷ order) r = in-order order (visit-at F (r .table b) b (record { table = r .table; queue = without b (r .queue) }))
-
-  -- one visit more, and a run that is cut in two
-  pub run-suc : (k : ℕ) (r : Run A) → run F (suc k) r ≡ step F (run F k r)
-  unfolding run
-  run-suc zero r = refl
-  run-suc (suc k) r = run-suc k (step F r)
-
-  pub run-add : (k j : ℕ) (r : Run A) → run F (k + j) r ≡ run F j (run F k r)
-  unfolding run
-  run-add zero j r = rw (zero-add j)
-  run-add (suc k) j r = rw (suc-add k j) (run-add k j (step F r))
-
-  -- at an empty queue nothing changes any more
-  pub run-still : (k : ℕ) (r : Run A) → r .queue ≡ [] → run F k r ≡ r
-  unfolding run step step-at
-  run-still zero r e = refl
-  run-still (suc k) r e = ap (λ (q : List ℕ). run F k (step-at F q r)) e ∙ run-still k r e
 
   module _ (L : Laws F) where
     pub served-good : {r r₁ : Run A} → Good F r → Served r r₁ → Good F r₁

@@ -29,6 +29,7 @@ use Rattle.walks.specs.Faults.{Explained}
 use Rattle.walks.specs.Meet
 use Rattle.walks.specs.Effects
 use Rattle.walks.specs.Flow
+use Rattle.walks.specs.Fits
 use Rattle.walks.specs.Loop
 use Rattle.walks.specs.House as Ends
 use Rattle.walks.specs.Honest
@@ -81,6 +82,9 @@ pub old-run-ends : (S : Sheet) → Closed S → (run (flow Old S) (1 + S .blocks
 unfolding analysis visit-bound
 old-run-ends = Loop.analysis-ends Old
 
+pub effect-lengths : (rule : Rule) (ref : Name → Bool) (x : Step) (s : State) → map length (effect rule ref x s) ≡ map length s
+effect-lengths = Fits.effect-lengths
+
 -- For code, under either rule. `Standing rule S C k r` says that r is a run of the sheet in which k visits have begun: it holds at
 -- the start, after each visit, and inside a visit after each push.
 module _ (rule : Rule) (S : Sheet) (C : Closed S) where
@@ -95,15 +99,22 @@ module _ (rule : Rule) (S : Sheet) (C : Closed S) where
       → Standing rule S C (suc k) (spread (flow rule S) pushed (effects rule (reference-typed S) (steps-of S b) s) (record { table = r .table; queue = queue }))
   standing-inside h = Loop.standing-inside rule S C h
 
-  -- visits so far and blocks waiting never pass the bound; a waiting block is a block; states have as many cells as `F` counts
+  -- visits so far and blocks waiting never pass the bound; a waiting block is a block and has a state; states have as many cells
+  -- as `F` counts
   pub standing-room : {k : ℕ} {r : Run State} → Standing rule S C k r → k + length (r .queue) ≤ visit-bound rule S
   standing-room h = Loop.standing-room rule S C h
 
   pub standing-below : {k : ℕ} {r : Run State} → Standing rule S C k r → (b : ℕ) → In b (r .queue) → b < S .blocks
   standing-below h = Loop.standing-below rule S C h
 
+  pub standing-visited : {k : ℕ} {r : Run State} → Standing rule S C k r → (b : ℕ) → In b (r .queue) → (s : State) × (r .table b ≡ some s)
+  standing-visited h = Loop.standing-visited rule S C h
+
   pub standing-lengths : {k : ℕ} {r : Run State} → Standing rule S C k r → (b : ℕ) (s : State) → r .table b ≡ some s → map length s ≡ S .regs ∷ S .slots ∷ []
   standing-lengths h = Loop.standing-lengths rule S C h
+
+  pub checked-lengths : (b : ℕ) → map length (checked-from rule S b) ≡ S .regs ∷ S .slots ∷ []
+  checked-lengths = Loop.checked-lengths rule S C
 
   -- a run that stops because its queue is empty is the whole analysis
   pub stopped-early : (k : ℕ) → (run (flow rule S) k (begin rule S)) .queue ≡ [] → run (flow rule S) k (begin rule S) ≡ analysis rule S

@@ -13,7 +13,7 @@ use Rattle.paper.specs.Cells.{pick}
 use Rattle.paper.specs.Runs.{Flow, Run, update, store, push-at, push, spread, visit-at, step-at, step, run}
 use Rattle.paper.specs.Walks.{In, here, there}
 use Rattle.walks.specs.Choices.{update-same, update-other, some-inj, some-not-none, in-append, in-nil, in-left}
-use Rattle.walks.specs.Order.{run-still}
+use Rattle.walks.specs.Running.{run-still}
 
 -- n blocks; a state that fits has a rank of at most h, and a meet that changes it lowers its rank
 pub record Ranked {A : Type 0} (F : Flow A) (n h : ℕ) : Type 1 where
@@ -43,6 +43,7 @@ module _ {A : Type 0} {F : Flow A} {n h : ℕ} (R : Ranked F n h) where
   pub record Within (bound k : ℕ) (r : Run A) : Type 0 where
     pub fit : (b : ℕ) (a : A) → r .table b ≡ some a → R .Fit a
     pub below : (b : ℕ) → In b (r .queue) → b < n
+    pub visited : (b : ℕ) → In b (r .queue) → (a : A) × (r .table b ≡ some a)
     pub room : k + potential r ≤ bound
 
   total-beyond : (t : ℕ → Option A) (s : ℕ) (y : A) (m : ℕ) → m ≤ s → total m (update t s y) ≡ total m t
@@ -79,6 +80,7 @@ module _ {A : Type 0} {F : Flow A} {n h : ℕ} (R : Ranked F n h) where
     within-take {k} {r} b q e g = record {
       fit = g .fit;
       below = λ c i. g .below c (subst (In c) (sym e) (there i));
+      visited = λ c i. g .visited c (subst (In c) (sym e) (there i));
       room = omega (arith, g .room, ap length e);
     }
 
@@ -87,6 +89,7 @@ module _ {A : Type 0} {F : Flow A} {n h : ℕ} (R : Ranked F n h) where
     within-store s y r l fy w g = record {
       fit = fit-update (r .table) s y fy (g .fit);
       below = λ b i. go b (in-append (r .queue) (s ∷ []) i);
+      visited = λ b i. stored b (ℕ-discrete b s) (in-append (r .queue) (s ∷ []) i);
       room = rw (length-append (r .queue) (s ∷ [])) (omega (arith, g .room, total-update (r .table) s y n l));
     }
       where
@@ -94,6 +97,12 @@ module _ {A : Type 0} {F : Flow A} {n h : ℕ} (R : Ranked F n h) where
         go b (inl i) = g .below b i
         go b (inr (here e)) = rw e l
         go b (inr (there i)) = absurd (in-nil i)
+
+        stored : (b : ℕ) → Dec (b ≡ s) → In b (r .queue) ⊎ In b (s ∷ []) → (a : A) × (update (r .table) s y b ≡ some a)
+        stored b (yes p) i = (y, ap (update (r .table) s y) p ∙ update-same (r .table) s y)
+        stored b (no n) (inl i) = let v = g .visited b i in (v .0, update-other (r .table) s y b n ∙ v .1)
+        stored b (no n) (inr (here p)) = absurd (n p)
+        stored b (no n) (inr (there i)) = absurd (in-nil i)
 
     pub within-push : {k : ℕ} (s : ℕ) (x : A) (r : Run A) → s < n → R .Fit x → Within bound k r → Within bound k (push F s x r)
     unfolding push push-at weight
@@ -141,6 +150,16 @@ module _ {A : Type 0} {F : Flow A} {n h : ℕ} (R : Ranked F n h) where
         at [] e rec = ap (λ (u : Run A). u .queue) (run-still F (suc more) r e) ∙ e
         at (b ∷ q) e rec = rec (within-step b q e g)
 
+    -- it holds after any number of steps, of which those at an empty queue are no visits
+    pub within-run : (steps : ℕ) {k : ℕ} (r : Run A) → Within bound k r → (j : ℕ) × Within bound j (run F steps r)
+    unfolding run
+    within-run zero {k} r g = (k, g)
+    within-run (suc steps) {k} r g = at (r .queue) refl (λ g′. within-run steps {k = suc k} (step F r) g′)
+      where
+        at : (q : List ℕ) → r .queue ≡ q → (Within bound (suc k) (step F r) → (j : ℕ) × Within bound j (run F steps (step F r))) → (j : ℕ) × Within bound j (run F steps (step F r))
+        at [] e rec = (k, subst (Within bound k) (sym (run-still F (suc steps) r e)) g)
+        at (b ∷ q) e rec = rec (within-step b q e g)
+
   total-none : (m : ℕ) → total m (λ b. none) ≡ m * suc h
   unfolding total weight
   total-none zero = omega arith
@@ -158,12 +177,17 @@ module _ {A : Type 0} {F : Flow A} {n h : ℕ} (R : Ranked F n h) where
   alone b (here e) = rw e (R .entry-in)
   alone b (there i) = absurd (in-nil i)
 
+  entry-visited : (before : ℕ → Option A) (b : ℕ) → In b (F .entry ∷ []) → (a : A) × (update before (F .entry) (F .first) b ≡ some a)
+  entry-visited before b (here e) = (F .first, ap (update before (F .entry) (F .first)) e ∙ update-same before (F .entry) (F .first))
+  entry-visited before b (there i) = absurd (in-nil i)
+
   -- the start where no other block has a state
   pub within-unvisited : Within (n * suc h) 0 (start (λ b. none))
   unfolding start potential weight
   within-unvisited = record {
     fit = fit-update (λ b. none) (F .entry) (F .first) (R .fit-first) (λ b a e. absurd (some-not-none refl e));
     below = alone;
+    visited = entry-visited (λ b. none);
     room = omega (arith, total-update (λ b. none) (F .entry) (F .first) n (R .entry-in), total-none n, R .high (F .first) (R .fit-first));
   }
 
@@ -173,6 +197,7 @@ module _ {A : Type 0} {F : Flow A} {n h : ℕ} (R : Ranked F n h) where
   within-visited c fc = record {
     fit = fit;
     below = alone;
+    visited = entry-visited (λ b. some c);
     room = omega (arith, total-all (update (λ b. some c) (F .entry) (F .first)) small n);
   }
     where
