@@ -3,35 +3,19 @@
 use mathlib.Core.Path.{_≡_, refl}
 use mathlib.Core.Bool.{Bool, true}
 use mathlib.Core.List.{List, [], _∷_}
-use mathlib.Core.Option.{some}
 use Prim.Native.Nat.{ℕ, suc}
 use native.Mathlib.Omega.{arith}
-use Rattle.paper.specs.Text.{Name, real, virtual}
-use Rattle.paper.specs.Sheet.{Operand, Step, spill, reload, change, operation, safepoint, Block, Sheet}
+use Rattle.paper.specs.Text.{Name, real, virtual as v}
+use Rattle.paper.specs.Sheet.{Step, spill, reload, change, safepoint, Block, Sheet}
 use Rattle.paper.specs.Steps.{entry-state}
 use Rattle.paper.specs.Report.{faults}
 use Rattle.paper.specs.Walks.{here, there, start, then, Passes, Acceptance}
 use Rattle.paper.specs.Programs.{World, original-run, allocated-run, EqualReads}
 use Rattle.paper.specs.declared.Rule.the-variants.{House}
 use Rattle.walks.specs.Choices.{some-not-none}
-use Rattle.walks.specs.Computed.{computed}
+use Rattle.walks.specs.Computed.{computed, defines, uses}
 
 -- v7 is reference-typed, v0 is not
-abbrev pub v0 : Name
-v0 = virtual 0
-
-abbrev pub v7 : Name
-v7 = virtual 7
-
-abbrev pub at-0 : Name → Operand
-at-0 n = record { name = n; reg = some 0 }
-
-abbrev pub defines : Name → Step
-defines n = operation 0 [] (at-0 n ∷ [])
-
-abbrev pub uses : Name → Step
-uses n = operation 1 (at-0 n ∷ []) []
-
 abbrev pub sheet-of : List Block → ℕ → Sheet
 sheet-of body blocks = record { regs = 1; slots = 1; vregs = 8; blocks = blocks; entry = 0; typed = 7 ∷ []; body = body }
 
@@ -41,15 +25,15 @@ counting = record { Value = ℕ; results = λ place values def. 0; collect = λ 
 
 -- A change from v7 to v0: the safepoint takes slot 0 for a reference and moves it, but the original does not move v0.
 abbrev pub retyped : Sheet
-retyped = sheet-of (record { succs = []; steps = defines v7 ∷ spill 0 0 ∷ change 2 0 v7 v0 ∷ safepoint 3 (0 ∷ []) ∷ reload 0 0 ∷ uses v0 ∷ [] } ∷ []) 1
+retyped = sheet-of (record { succs = []; steps = defines (v 7) 0 ∷ spill 0 0 ∷ change 2 0 (v 7) (v 0) ∷ safepoint 3 (0 ∷ []) ∷ reload 0 0 ∷ uses (v 0) 0 ∷ [] } ∷ []) 1
 
 -- One branch brings v0 marked, by such a change, the other unmarked; their meet is marked and passes the safepoint.
 abbrev pub half-marked : Sheet
 half-marked =
     sheet-of (
     record { succs = 1 ∷ 2 ∷ []; steps = [] }
-    ∷ record { succs = 3 ∷ []; steps = defines v7 ∷ spill 0 0 ∷ change 2 0 v7 v0 ∷ [] }
-    ∷ record { succs = 3 ∷ []; steps = defines v0 ∷ spill 0 0 ∷ [] }
+    ∷ record { succs = 3 ∷ []; steps = defines (v 7) 0 ∷ spill 0 0 ∷ change 2 0 (v 7) (v 0) ∷ [] }
+    ∷ record { succs = 3 ∷ []; steps = defines (v 0) 0 ∷ spill 0 0 ∷ [] }
     ∷ record { succs = []; steps = safepoint 3 (0 ∷ []) ∷ [] }
     ∷ []
     ) 4
@@ -82,7 +66,7 @@ abbrev pub every-name : Name → Bool
 every-name n = true
 
 abbrev pub over-a-safepoint : List Step
-over-a-safepoint = safepoint 3 [] ∷ uses (real 0) ∷ []
+over-a-safepoint = safepoint 3 [] ∷ uses (real 0) 0 ∷ []
 
 pub typed-real-passes : Passes every-name over-a-safepoint (entry-state House retyped)
 unfolding computed

@@ -7,8 +7,8 @@ use mathlib.Core.List.{List, [], _∷_}
 use mathlib.Core.Option.{Option, none, some}
 use Prim.Native.Nat.{ℕ, suc, zero, _<_}
 use native.Mathlib.Omega.{arith}
-use Rattle.paper.specs.Text.{Name, virtual}
-use Rattle.paper.specs.Sheet.{Step, spill, change, operation, safepoint, Sheet, succs-of}
+use Rattle.paper.specs.Text.{Name, virtual as v}
+use Rattle.paper.specs.Sheet.{Step, spill, change, safepoint, Sheet, succs-of}
 use Rattle.paper.specs.Cells.{Cell, conflicted, named}
 use Rattle.paper.specs.Steps.{State, Fault, stack-map-specifies-non-ref-slot, check, effect}
 use Rattle.paper.specs.Runs.{Run, meet-states, flow, begin, analysis}
@@ -17,35 +17,23 @@ use Rattle.paper.specs.declared.Rule.the-variants.{Old}
 use Rattle.walks.specs.Choices.{in-nil}
 use Rattle.walks.specs.Bounds.{Closed}
 use Rattle.walks.specs.Order.{in-order}
-use Rattle.walks.specs.Computed.{computed}
-
-abbrev pub v0 : Name
-v0 = virtual 0
-
-abbrev pub v1 : Name
-v1 = virtual 1
-
-abbrev pub v2 : Name
-v2 = virtual 2
+use Rattle.walks.specs.Computed.{computed, defines}
 
 abbrev pub ownership : Step
-ownership = change 2 0 v0 v2
+ownership = change 2 0 (v 0) (v 2)
 
 -- a state of no register and one slot
 abbrev pub slot-holds : Cell → State
 slot-holds c = [] ∷ (c ∷ []) ∷ []
 
 -- the effect of the meet, and the meet of the effects
-pub old-effect-of-meet : (ref : Name → Bool) → effect Old ref ownership (meet-states Old (slot-holds (named v0 true)) (slot-holds (named v1 true))) ≡ slot-holds (named v2 false)
+pub old-effect-of-meet : (ref : Name → Bool) → effect Old ref ownership (meet-states Old (slot-holds (named (v 0) true)) (slot-holds (named (v 1) true))) ≡ slot-holds (named (v 2) false)
 unfolding computed
 old-effect-of-meet ref = refl
 
-pub old-meet-of-effects : (ref : Name → Bool) → meet-states Old (effect Old ref ownership (slot-holds (named v0 true))) (effect Old ref ownership (slot-holds (named v1 true))) ≡ slot-holds (named v2 true)
+pub old-meet-of-effects : (ref : Name → Bool) → meet-states Old (effect Old ref ownership (slot-holds (named (v 0) true))) (effect Old ref ownership (slot-holds (named (v 1) true))) ≡ slot-holds (named (v 2) true)
 unfolding computed
 old-meet-of-effects ref = refl
-
-abbrev pub defines : Name → Step
-defines n = operation 0 [] (record { name = n; reg = some 0 } ∷ [])
 
 -- Blocks 1 and 2 bring a reference-typed name each to slot 0; block 3 changes its ownership; block 4 is a safepoint that lists it.
 abbrev pub crossing : Sheet
@@ -58,8 +46,8 @@ crossing = record {
   typed = 0 ∷ 1 ∷ 2 ∷ [];
   body =
       record { succs = 1 ∷ 2 ∷ []; steps = [] }
-      ∷ record { succs = 3 ∷ []; steps = defines v0 ∷ spill 0 0 ∷ [] }
-      ∷ record { succs = 3 ∷ []; steps = defines v1 ∷ spill 0 0 ∷ [] }
+      ∷ record { succs = 3 ∷ []; steps = defines (v 0) 0 ∷ spill 0 0 ∷ [] }
+      ∷ record { succs = 3 ∷ []; steps = defines (v 1) 0 ∷ spill 0 0 ∷ [] }
       ∷ record { succs = 4 ∷ []; steps = ownership ∷ [] }
       ∷ record { succs = []; steps = safepoint 3 (0 ∷ []) ∷ [] }
       ∷ [];
@@ -79,12 +67,12 @@ unfoldable pub end-of : Run State → End
 end-of r = record { waiting = r .queue; last = r .table 4; found = found-in (r .table 4) }
 
 -- the defined run serves 0 1 2 3 3 4: the slot's name is unmarked, kind 6
-pub first-in-first-out : end-of (analysis Old crossing) ≡ record { waiting = []; last = some ((conflicted ∷ []) ∷ (named v2 false ∷ []) ∷ []); found = some (stack-map-specifies-non-ref-slot 0) }
+pub first-in-first-out : end-of (analysis Old crossing) ≡ record { waiting = []; last = some ((conflicted ∷ []) ∷ (named (v 2) false ∷ []) ∷ []); found = some (stack-map-specifies-non-ref-slot 0) }
 unfolding computed end-of found-in
 first-in-first-out = refl
 
 -- block 3 served before block 2: the slot's name is marked, and no fault is found
-pub another-order : end-of (in-order (flow Old crossing) (0 ∷ 1 ∷ 3 ∷ 2 ∷ 4 ∷ 3 ∷ 4 ∷ []) (begin Old crossing)) ≡ record { waiting = []; last = some ((conflicted ∷ []) ∷ (named v2 true ∷ []) ∷ []); found = none }
+pub another-order : end-of (in-order (flow Old crossing) (0 ∷ 1 ∷ 3 ∷ 2 ∷ 4 ∷ 3 ∷ 4 ∷ []) (begin Old crossing)) ≡ record { waiting = []; last = some ((conflicted ∷ []) ∷ (named (v 2) true ∷ []) ∷ []); found = none }
 unfolding computed end-of found-in
 another-order = refl
 
@@ -107,7 +95,7 @@ crossing-closed = record { entry-in = omega arith; succs-in = inside }
 pub old-does-not-distribute : ¬ ((ref : Name → Bool) (x : Step) (s t : State) → effect Old ref x (meet-states Old s t) ≡ meet-states Old (effect Old ref x s) (effect Old ref x t))
 old-does-not-distribute h =
     let ref : Name → Bool = λ n. true in
-    let e = h ref ownership (slot-holds (named v0 true)) (slot-holds (named v1 true)) in
+    let e = h ref ownership (slot-holds (named (v 0) true)) (slot-holds (named (v 1) true)) in
     let z : _≡_ {A = ℕ} 0 1 = cc (old-effect-of-meet ref, old-meet-of-effects ref) in
     omega arith
 

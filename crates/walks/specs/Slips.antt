@@ -6,7 +6,7 @@ use mathlib.Core.List.{List, [], _∷_, map}
 use mathlib.Core.Option.{Option, none, some}
 use Prim.Native.Nat.{ℕ, suc, zero, _+_}
 use lib.ListN.{length}
-use Rattle.paper.specs.Text.{Name, real, virtual, name-same}
+use Rattle.paper.specs.Text.{Name, real, virtual as v, name-same}
 use Rattle.paper.specs.Sheet.{Operand, Step, spill, reload, move, change, operation, safepoint, Block, Sheet, succs-of, steps-of, listed, reference-typed}
 use Rattle.paper.specs.Cells.{Cell, absent, unknown, conflicted, named, pick, old-meet, house-meet, overwritten, house-changed, collected}
 use Rattle.paper.specs.Steps.{State, register, slot, get, put, location-of, entry-state, unreached-state, Fault, unknown-value-in-reg, check, copy, everywhere, placed, safepoint-row, house-define, house-effect, effect}
@@ -15,7 +15,7 @@ use Rattle.paper.specs.Report.{faults}
 use Rattle.paper.specs.Programs.{World, original-run, allocated-run}
 use Rattle.paper.specs.declared.Rule.the-variants.{House}
 use Rattle.walks.specs.Order.{in-order}
-use Rattle.walks.specs.Computed.{computed}
+use Rattle.walks.specs.Computed.{computed, defines, uses}
 
 pub record Variant : Type 0 where
   -- what `O` makes of the cells that hold a name which it writes, and `C` of those that hold the new name
@@ -101,21 +101,6 @@ house-effects ref (change inst k from to) s = refl
 house-effects ref (operation inst uses defs) s = house-defines ref defs s
 house-effects ref (safepoint inst slots) s = ap (λ (f : ℕ → List Cell → List Cell). placed f s) (house-rows slots)
 
-abbrev pub v0 : Name
-v0 = virtual 0
-
-abbrev pub v1 : Name
-v1 = virtual 1
-
-abbrev pub v2 : Name
-v2 = virtual 2
-
-abbrev pub defines : Name → ℕ → Step
-defines n r = operation 0 [] (record { name = n; reg = some r } ∷ [])
-
-abbrev pub uses : Name → ℕ → Step
-uses n r = operation 1 (record { name = n; reg = some r } ∷ []) []
-
 -- v1 alone is reference-typed
 abbrev pub sheet-of : ℕ → ℕ → List Block → Sheet
 sheet-of regs slots body = record { regs = regs; slots = slots; vregs = 3; blocks = length body; entry = 0; typed = 1 ∷ []; body = body }
@@ -136,9 +121,9 @@ abbrev pub branches : Sheet
 branches =
     sheet-of 2 0 (
     record { succs = 1 ∷ 2 ∷ []; steps = [] }
-    ∷ record { succs = 3 ∷ []; steps = defines v0 1 ∷ [] }
-    ∷ record { succs = 3 ∷ []; steps = defines v1 1 ∷ [] }
-    ∷ record { succs = 4 ∷ []; steps = defines v0 0 ∷ [] }
+    ∷ record { succs = 3 ∷ []; steps = defines (v 0) 1 ∷ [] }
+    ∷ record { succs = 3 ∷ []; steps = defines (v 1) 1 ∷ [] }
+    ∷ record { succs = 4 ∷ []; steps = defines (v 0) 0 ∷ [] }
     ∷ record { succs = []; steps = [] }
     ∷ []
     )
@@ -147,11 +132,11 @@ branches =
 unfoldable pub end-of : Run State → List ℕ × Option State
 end-of r = (r .queue, r .table 4)
 
-pub slip-first-in-first-out : end-of (run-by unknown-copies branches) ≡ ([], some ((named v0 false ∷ conflicted ∷ []) ∷ [] ∷ []))
+pub slip-first-in-first-out : end-of (run-by unknown-copies branches) ≡ ([], some ((named (v 0) false ∷ conflicted ∷ []) ∷ [] ∷ []))
 unfolding computed-by stale-unknown end-of
 slip-first-in-first-out = refl
 
-pub slip-another-order : end-of (in-order (flow-by unknown-copies branches) (0 ∷ 1 ∷ 3 ∷ 2 ∷ 4 ∷ 3 ∷ 4 ∷ []) (begin-by unknown-copies branches)) ≡ ([], some ((named v0 false ∷ unknown ∷ []) ∷ [] ∷ []))
+pub slip-another-order : end-of (in-order (flow-by unknown-copies branches) (0 ∷ 1 ∷ 3 ∷ 2 ∷ 4 ∷ 3 ∷ 4 ∷ []) (begin-by unknown-copies branches)) ≡ ([], some ((named (v 0) false ∷ unknown ∷ []) ∷ [] ∷ []))
 unfolding computed-by stale-unknown end-of
 slip-another-order = refl
 
@@ -183,10 +168,10 @@ unknown-neutral = record { at-definition = overwritten; at-change = overwritten;
 abbrev pub unfilled-branch : Sheet
 unfilled-branch =
     sheet-of 2 1 (
-    record { succs = 1 ∷ 2 ∷ []; steps = defines v0 0 ∷ [] }
+    record { succs = 1 ∷ 2 ∷ []; steps = defines (v 0) 0 ∷ [] }
     ∷ record { succs = 3 ∷ []; steps = spill 0 0 ∷ [] }
     ∷ record { succs = 3 ∷ []; steps = [] }
-    ∷ record { succs = []; steps = reload 1 0 ∷ uses v0 1 ∷ [] }
+    ∷ record { succs = []; steps = reload 1 0 ∷ uses (v 0) 1 ∷ [] }
     ∷ []
     )
 
@@ -194,7 +179,7 @@ pub slip-accepts : found-in unknown-neutral unfilled-branch 3 ≡ none ∷ none 
 unfolding computed-by found-in
 slip-accepts = refl
 
-pub the-walk-fails : found-by unknown-neutral (reference-typed unfilled-branch) (defines v0 0 ∷ reload 1 0 ∷ uses v0 1 ∷ []) (entry-state House unfilled-branch)
+pub the-walk-fails : found-by unknown-neutral (reference-typed unfilled-branch) (defines (v 0) 0 ∷ reload 1 0 ∷ uses (v 0) 1 ∷ []) (entry-state House unfilled-branch)
     ≡ none ∷ none ∷ some (unknown-value-in-reg (some 1)) ∷ []
 unfolding computed-by
 the-walk-fails = refl
@@ -223,7 +208,7 @@ abbrev pub copies-left : Variant
 copies-left = record { at-definition = overwritten; at-change = λ n c. c; unlisted = collected House; meet = house-meet; unvisited = λ S. none }
 
 abbrev pub changed-steps : List Step
-changed-steps = defines v2 0 ∷ defines v0 1 ∷ spill 0 1 ∷ change 2 0 v0 v2 ∷ uses v2 0 ∷ []
+changed-steps = defines (v 2) 0 ∷ defines (v 0) 1 ∷ spill 0 1 ∷ change 2 0 (v 0) (v 2) ∷ uses (v 2) 0 ∷ []
 
 pub slip-trusts-the-copy : walked-by copies-left (sheet-of 2 1 []) changed-steps
     ≡ record { found = none ∷ none ∷ none ∷ none ∷ none ∷ []; original = [] ∷ [] ∷ [] ∷ [] ∷ (1 ∷ []) ∷ []; allocated = [] ∷ [] ∷ [] ∷ [] ∷ (0 ∷ []) ∷ [] }
@@ -236,7 +221,7 @@ abbrev pub slots-kept : Variant
 slots-kept = record { at-definition = overwritten; at-change = overwritten; unlisted = λ c. c; meet = house-meet; unvisited = λ S. none }
 
 abbrev pub kept-steps : List Step
-kept-steps = defines v1 0 ∷ spill 0 0 ∷ safepoint 3 [] ∷ reload 0 0 ∷ uses v1 0 ∷ []
+kept-steps = defines (v 1) 0 ∷ spill 0 0 ∷ safepoint 3 [] ∷ reload 0 0 ∷ uses (v 1) 0 ∷ []
 
 pub slip-trusts-the-slot : walked-by slots-kept (sheet-of 2 1 []) kept-steps
     ≡ record { found = none ∷ none ∷ none ∷ none ∷ none ∷ []; original = [] ∷ [] ∷ [] ∷ [] ∷ (10 ∷ []) ∷ []; allocated = [] ∷ [] ∷ [] ∷ [] ∷ (0 ∷ []) ∷ [] }

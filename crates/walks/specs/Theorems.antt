@@ -38,7 +38,7 @@ use Rattle.walks.specs.Faults
 use Rattle.walks.specs.OldRule
 use Rattle.walks.specs.Reading
 
--- 1. "The house meet is associative, commutative and idempotent", of cells and of states.
+-- 1. The house meet is associative, commutative and idempotent, of cells and of states.
 pub house-assoc : (x y z : Cell) → meet House (meet House x y) z ≡ meet House x (meet House y z)
 house-assoc = Meet.house-assoc
 
@@ -57,7 +57,7 @@ states-comm = Effects.states-comm
 pub states-idem : (s : State) → meet-states House s s ≡ s
 states-idem = Effects.states-idem
 
--- "every house effect, every block, distributes over it"
+-- Every house effect distributes over it, and so does every block.
 pub effect-distributes : (ref : Name → Bool) (x : Step) (s t : State) → effect House ref x (meet-states House s t) ≡ meet-states House (effect House ref x s) (effect House ref x t)
 effect-distributes = Effects.effect-distributes
 
@@ -82,11 +82,8 @@ pub old-run-ends : (S : Sheet) → Closed S → (run (flow Old S) (1 + S .blocks
 unfolding analysis visit-bound
 old-run-ends = Loop.analysis-ends Old
 
-pub effect-lengths : (rule : Rule) (ref : Name → Bool) (x : Step) (s : State) → map length (effect rule ref x s) ≡ map length s
-effect-lengths = Fits.effect-lengths
-
--- For code, under either rule. `Standing rule S C k r` says that r is a run of the sheet in which k visits have begun: it holds at
--- the start, after each visit, and inside a visit after each push.
+-- For code, under either rule. `Standing rule S C k r` is an invariant of the run r, with k the visits begun so far: it holds at the
+-- start, after each visit, and inside a visit after each push.
 module _ (rule : Rule) (S : Sheet) (C : Closed S) where
   pub standing-begin : Standing rule S C 0 (begin rule S)
   standing-begin = Loop.standing-begin rule S C
@@ -116,13 +113,16 @@ module _ (rule : Rule) (S : Sheet) (C : Closed S) where
   pub checked-lengths : (b : ℕ) → map length (checked-from rule S b) ≡ S .regs ∷ S .slots ∷ []
   checked-lengths = Loop.checked-lengths rule S C
 
+  pub effect-lengths : (ref : Name → Bool) (x : Step) (s : State) → map length (effect rule ref x s) ≡ map length s
+  effect-lengths = Fits.effect-lengths rule
+
   -- a run that stops because its queue is empty is the whole analysis
   pub stopped-early : (k : ℕ) → (run (flow rule S) k (begin rule S)) .queue ≡ [] → run (flow rule S) k (begin rule S) ≡ analysis rule S
   stopped-early = Loop.stopped-early rule S C
 
 module _ (S : Sheet) (C : Closed S) where
-  -- 3. "the state that each reached block is checked from is the meet over all finite walks from the entry". Nothing here asks that
-  -- no allocation is missing: an operand without one is nowhere, and its effect distributes too.
+  -- 3. The state that each reached block is checked from is the meet over all walks from the entry. Nothing here asks that no
+  -- allocation is missing: an operand without one is nowhere, and its effect distributes too.
   pub meet-over-all-walks : (b : ℕ) → HouseWalk S b → MeetOverWalks (flow House S) b (checked-from House S b)
   unfolding checked-from entered
   meet-over-all-walks b w = at ((analysis House S) .table b) refl
@@ -131,11 +131,11 @@ module _ (S : Sheet) (C : Closed S) where
       at none e = absurd (Ends.house-unreached S C b e w)
       at (some s) e = subst (λ (t : Option State). MeetOverWalks (flow House S) b (entered House S t)) (sym e) (Ends.house-meet-over-walks S C b s e)
 
-  -- "it is unique"
+  -- There is but one such state.
   pub meet-unique : (b : ℕ) (s t : State) → MeetOverWalks (flow House S) b s → MeetOverWalks (flow House S) b t → s ≡ t
   meet-unique = Flow.meet-unique (flow House S) (Effects.house-laws S)
 
-  -- "visited blocks are exactly the reached ones"
+  -- Visited blocks are exactly the reached ones.
   pub visited-are-reached : (b : ℕ) → ((s : State) × ((analysis House S) .table b ≡ some s)) ↔ HouseWalk S b
   visited-are-reached b = (λ v. Ends.house-reached S C b (v .0) (v .1), λ w. at w ((analysis House S) .table b) refl)
     where
@@ -143,8 +143,8 @@ module _ (S : Sheet) (C : Closed S) where
       at w none e = absurd (Ends.house-unreached S C b e w)
       at w (some s) e = (s, e)
 
-  -- "any finished run that serves the blocks in another order ends in the same states": `Served` (Order.antt) lets the next block,
-  -- the order of its successors and of the waiting blocks be chosen anew at each visit
+  -- Any finished run that serves the blocks in another order ends in the same states. `Served` (Order.antt) lets the next block, the
+  -- order of its successors and that of the waiting blocks be chosen anew at each visit.
   pub house-any-order : (r : Run State) → Served (flow House S) (begin House S) r → r .queue ≡ [] → (b : ℕ) → r .table b ≡ (analysis House S) .table b
   house-any-order = Ends.house-any-order S C
 
@@ -158,12 +158,12 @@ module _ (S : Sheet) (C : Closed S) where
   pub acceptance : Typed S → (faults House S ≡ []) ↔ Acceptance S
   acceptance T = (Accepting.accepted-sentence S C T, Accepting.acceptance-suffices S C)
 
-  -- 5. "along every walk, its last block's own steps included, the original and the allocated program .. read equal values at every
-  -- use, for any type of values, any results function of place and values read, any collector"
+  -- 5. Along every walk, its last block's own steps included, the two programs read equal values at every use, for any type of values,
+  -- any results, any collector.
   pub accepted-reads-equal : Typed S → faults House S ≡ [] → EqualReads S
   accepted-reads-equal T e = Accepting.equal-reads S C T (acceptance T .0 e)
 
--- 6. The same from bytes. Refusal 5 gives `Closed`, refusals 4 and 8 `Typed`; no other refusal is used. Needed.antt computes sheets
+-- 6. The same from bytes. Refusals 4 and 5 give `Closed`, 4 and 8 `Typed`; no other is used. Needed.antt computes sheets
 -- on which acceptance and equal reads fail without refusal 8, and with a reference-typed real name.
 pub read-closed : (bytes : Bytes) (S : Sheet) → read bytes ≡ loaded S → Closed S
 read-closed = Reading.read-closed
