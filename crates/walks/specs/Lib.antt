@@ -33,3 +33,5 @@ pub mod Needed
 pub mod Slips
 -- the statements together
 pub mod Theorems
+-- and a sheet to which they apply
+pub mod Example

@@ -21,7 +21,7 @@ sheet-of body blocks = record { regs = 1; slots = 1; vregs = 8; blocks = blocks;
 
 -- an operation gives 0, and the collector adds 1
 abbrev pub counting : World
-counting = record { Value = ℕ; results = λ place values def. 0; collect = λ place v. suc v }
+counting = record { Value = ℕ; results = λ place values def. 0; collect = λ place value. suc value }
 
 -- A change from v7 to v0: the safepoint takes slot 0 for a reference and moves it, but the original does not move v0.
 abbrev pub retyped : Sheet

@@ -186,7 +186,7 @@ the-walk-fails = refl
 
 -- an operation gives its place, the collector adds 10
 abbrev pub placing : World
-placing = record { Value = ℕ; results = λ place values def. place; collect = λ place v. v + 10 }
+placing = record { Value = ℕ; results = λ place values def. place; collect = λ place value. value + 10 }
 
 -- what the checks of some steps find from the entry state, and what the two programs read on them from equal values
 pub record Walked : Type 0 where
