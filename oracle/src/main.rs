@@ -5,12 +5,17 @@
 extern crate self as log;
 extern crate self as rustc_hash;
 
+mod damage;
+mod drive;
 mod frames;
+mod generate;
 mod house;
 mod old;
 mod plain;
+mod random;
 mod report;
 mod sheet;
+mod shrink;
 mod stand_ins;
 
 // The build script links this path to the Rust crate, which stays where it is.
@@ -23,9 +28,15 @@ use stand_ins::{
     StackmapRequestInfo,
 };
 
+use drive::{Counts, Plan, Product};
 use frames::Old;
 use plain::{Wrong, WRONGS};
-use std::io;
+use std::io::{self, Write};
+
+const USAGE: &str = "usage:
+  oracle speak                       answers frames on standard input with four frames each
+  oracle drive N SEED COMMAND        compares COMMAND, which speaks frames, on N sheets
+  oracle sheet SEED INDEX            writes one generated sheet";
 
 fn main() {
     let arguments: Vec<String> = std::env::args().skip(1).collect();
@@ -34,11 +45,27 @@ fn main() {
         ["speak"] => speak(Old::Rust, Wrong::Nothing),
         ["speak", "plain"] => speak(Old::Plain, Wrong::Nothing),
         ["speak", "wrong", name] => wrong(name).and_then(|wrong| speak(Old::Plain, wrong)),
-        _ => Err("usage: oracle speak".to_string()),
+        ["drive", sheets, seed, command] => {
+            number(sheets).and_then(|n| drive(n, number(seed)?, command))
+        }
+        ["sheet", seed, index] => number(seed).and_then(|s| one_sheet(s, number(index)?)),
+        _ => Err(USAGE.to_string()),
     };
     if let Err(message) = result {
         eprintln!("oracle: {}", message);
         std::process::exit(1);
+    }
+}
+
+fn number(word: &str) -> Result<u64, String> {
+    word.parse().map_err(|_| format!("{} is not a number", word))
+}
+
+/// A setting from the environment, a number.
+fn setting(name: &str, otherwise: u64) -> Result<u64, String> {
+    match std::env::var(name) {
+        Ok(word) => number(&word),
+        Err(_) => Ok(otherwise),
     }
 }
 
@@ -52,4 +79,39 @@ fn speak(old: Old, wrong: Wrong) -> Result<(), String> {
     let stdout = io::stdout();
     let mut out = io::BufWriter::new(stdout.lock());
     frames::speak(&mut stdin.lock(), &mut out, old, wrong)
+}
+
+fn one_sheet(seed: u64, index: u64) -> Result<(), String> {
+    let (_, sheet) = generate::generate(seed, index);
+    io::stdout().write_all(&sheet).map_err(|e| e.to_string())
+}
+
+fn drive(sheets: u64, seed: u64, command: &str) -> Result<(), String> {
+    let plan = Plan {
+        product: Product {
+            command: command.to_string(),
+            patience: setting("ORACLE_PATIENCE", 900)?,
+        },
+        sheets,
+        seed,
+        rust_states: setting("ORACLE_RUST_STATES", 1)?.max(1),
+        counts: true,
+        quiet: false,
+    };
+    let started = std::time::Instant::now();
+    let mut counts = Counts::new();
+    match drive::compare(&plan, &mut counts)? {
+        None => {
+            counts.print();
+            let seconds = started.elapsed().as_secs();
+            println!("{} sheets, seed {}, {} s: 0 differences", sheets, seed, seconds);
+            Ok(())
+        }
+        Some(found) => {
+            println!("seed {}, sheet {}: a difference; shrinking it", seed, found.index);
+            let small = drive::shrink_difference(&plan.product, &found.sheet);
+            drive::print_difference(&plan.product, &small)?;
+            Err(format!("1 difference after {} sheets", found.index))
+        }
+    }
 }
