@@ -419,18 +419,18 @@ pub fn several(random: &mut Random) -> Vec<u8> {
         1 => blocks - 1,
         _ => blocks,
     };
-    let full = random.percent(8);
+    let full = random.percent(6);
     for block in 0..opened {
         lines.push("B".to_string());
         if full && block == 0 {
-            for _ in 0..random.within(1_022, 1_024) {
+            for _ in 0..*random.pick(&[1_022, 1_023, 1_024, 1_024, 1_024, 1_025]) {
                 lines.push("M 0 0".to_string());
             }
         }
     }
     for _ in 0..random.within(1, 2) {
-        let line = bad_line(random, regs, slots, vregs);
-        let from_end = if full || random.percent(60) { 0 } else { random.below(lines.len()) };
+        let line = Bounds { regs, slots, vregs, wild: random.percent(35) }.line(random);
+        let from_end = if full || random.percent(70) { 0 } else { random.below(lines.len()) };
         let at = lines.len() - from_end;
         lines.insert(at, line);
     }
@@ -442,75 +442,120 @@ pub fn several(random: &mut Random) -> Vec<u8> {
     bytes
 }
 
-/// A number at, beyond or far beyond a limit, or within it.
-fn near(random: &mut Random, limit: usize) -> String {
-    match random.below(12) {
-        0 => limit.to_string(),
-        1 => (limit + 1).to_string(),
-        2 if random.percent(30) => "99999".to_string(),
-        3 if random.percent(20) => "100000".to_string(),
-        4 if random.percent(20) => "00".to_string(),
-        _ => random.below(limit.max(1)).to_string(),
-    }
+/// The counts of a sheet that a line is held against, and whether the line may go beyond them.
+struct Bounds {
+    regs: usize,
+    slots: usize,
+    vregs: usize,
+    wild: bool,
 }
 
-fn near_name(random: &mut Random, regs: usize, vregs: usize) -> String {
-    if random.percent(30) {
-        format!("r{}", near(random, regs))
-    } else {
-        format!("v{}", near(random, vregs))
+impl Bounds {
+    /// A number within a limit; in a wild line also at it, beyond it or ill-formed.
+    fn near(&self, random: &mut Random, limit: usize) -> String {
+        match random.below(12) {
+            0 if self.wild => limit.to_string(),
+            1 if self.wild => (limit + 1).to_string(),
+            2 if self.wild && random.percent(30) => "99999".to_string(),
+            3 if self.wild && random.percent(20) => "100000".to_string(),
+            4 if self.wild && random.percent(20) => "00".to_string(),
+            _ => random.below(limit.max(1)).to_string(),
+        }
     }
-}
 
-fn near_inst(random: &mut Random) -> String {
-    match random.below(8) {
-        0 => "65536".to_string(),
-        1 => "65535".to_string(),
-        _ => random.below(20).to_string(),
+    fn name(&self, random: &mut Random) -> String {
+        if random.percent(30) {
+            format!("r{}", self.near(random, self.regs))
+        } else {
+            format!("v{}", self.near(random, self.vregs))
+        }
     }
-}
 
-fn bad_operands(random: &mut Random, regs: usize, vregs: usize) -> String {
-    let count = *random.pick(&[0, 1, 2, 2, 3, 3, 8, 9]);
-    let mut text = format!(" {}", if random.percent(4) { count + 1 } else { count });
-    for _ in 0..count {
-        let reg = if random.percent(12) { "-".to_string() } else { near(random, regs) };
-        text += &format!(" {} {}", near_name(random, regs, vregs), reg);
+    fn inst(&self, random: &mut Random) -> String {
+        match random.below(8) {
+            0 if self.wild => "65536".to_string(),
+            1 => "65535".to_string(),
+            _ => random.below(20).to_string(),
+        }
     }
-    text
-}
 
-fn bad_line(random: &mut Random, regs: usize, slots: usize, vregs: usize) -> String {
-    let mut line = match random.below(12) {
-        0..=3 => {
-            let uses = bad_operands(random, regs, vregs);
-            let defs = bad_operands(random, regs, vregs);
-            format!("O {}{}{}", near_inst(random), uses, defs)
+    /// Distinct names on distinct registers, a real name often on another one or on none.
+    fn tidy_operands(&self, random: &mut Random) -> String {
+        let mut text = String::new();
+        let mut count = 0;
+        let turn = random.below(self.regs);
+        for i in 0..self.regs.min(self.vregs) {
+            if random.percent(50) {
+                continue;
+            }
+            let reg = (i + turn) % self.regs;
+            let name = match random.below(4) {
+                0 => format!("r{}", i),
+                1 => format!("r{}", reg),
+                _ => format!("v{}", i),
+            };
+            let reg = if random.percent(10) { "-".to_string() } else { reg.to_string() };
+            text += &format!(" {} {}", name, reg);
+            count += 1;
         }
-        4..=6 => {
-            let from = near_name(random, regs, vregs);
-            let to = near_name(random, regs, vregs);
-            format!("C {} {} {} {}", near_inst(random), near(random, slots), from, to)
-        }
-        7 => {
-            let listed: String =
-                (0..random.within(0, 3)).map(|_| format!(" {}", near(random, slots))).collect();
-            format!("P {}{}", near_inst(random), listed)
-        }
-        8 => format!("T {}", near(random, vregs)),
-        9 => {
-            let succs: String =
-                (0..random.within(0, 9)).map(|_| format!(" {}", near(random, 2))).collect();
-            format!("B{}", succs)
-        }
-        10 => {
-            let letter = *random.pick(&["S", "L", "M"]);
-            format!("{} {} {}", letter, near(random, slots), near(random, regs))
-        }
-        _ => format!("F {} 2 2 1 {}", near(random, 32), near(random, 1)),
-    };
-    if random.percent(6) {
-        line += *random.pick(&[" 0", " ", "x", " -", "\r"]);
+        format!(" {}{}", count, text)
     }
-    line
+
+    fn operands(&self, random: &mut Random) -> String {
+        if !self.wild && random.percent(60) {
+            return self.tidy_operands(random);
+        }
+        let count = *random.pick(if self.wild { &[0, 1, 2, 3, 8, 9] } else { &[0, 1, 2, 2, 3, 8] });
+        let said = if self.wild && random.percent(8) { count + 1 } else { count };
+        let mut text = format!(" {}", said);
+        for _ in 0..count {
+            let mut name = self.name(random);
+            let mut reg = self.near(random, self.regs);
+            if random.percent(10) {
+                reg = "-".to_string();
+            } else if name.starts_with('r') && random.percent(60) {
+                name = format!("r{}", reg);
+            }
+            text += &format!(" {} {}", name, reg);
+        }
+        text
+    }
+
+    fn line(&self, random: &mut Random) -> String {
+        let mut line = match random.below(12) {
+            0..=3 => {
+                let uses = self.operands(random);
+                let defs = self.operands(random);
+                format!("O {}{}{}", self.inst(random), uses, defs)
+            }
+            4..=6 => {
+                let from = self.name(random);
+                let to = self.name(random);
+                format!("C {} {} {} {}", self.inst(random), self.near(random, self.slots), from, to)
+            }
+            7 => {
+                let count = random.within(0, 3);
+                let listed: String =
+                    (0..count).map(|_| format!(" {}", self.near(random, self.slots))).collect();
+                format!("P {}{}", self.inst(random), listed)
+            }
+            8 => format!("T {}", self.near(random, self.vregs)),
+            9 => {
+                let count = random.within(0, 9);
+                let succs: String =
+                    (0..count).map(|_| format!(" {}", self.near(random, 2))).collect();
+                format!("B{}", succs)
+            }
+            10 => {
+                let letter = *random.pick(&["S", "L", "M"]);
+                let (a, b) = (self.near(random, self.slots), self.near(random, self.regs));
+                format!("{} {} {}", letter, a, b)
+            }
+            _ => format!("F {} 2 2 1 {}", self.near(random, 32), self.near(random, 1)),
+        };
+        if self.wild && random.percent(15) {
+            line += *random.pick(&[" 0", " ", "x", " -", "\r"]);
+        }
+        line
+    }
 }

@@ -2,9 +2,7 @@
 
 use crate::frames::{answers, read_frame, write_frame, Answers, Old};
 use crate::generate::{generate, KINDS};
-use crate::plain::{missing, old_faults, Wrong};
-use crate::report::report;
-use crate::sheet::read;
+use crate::plain::Wrong;
 use crate::shrink::shrink;
 use std::io::{Cursor, Read};
 use std::process::{Child, Command, Stdio};
@@ -99,7 +97,8 @@ pub struct Counts {
     lines: [[usize; 8]; 2],
     house_only: usize,
     old_only: usize,
-    orders: [usize; 4],
+    /// For each order of `ORDERS`: sheets whose old report changes, sheets whose old entry states do.
+    orders: [[usize; 2]; 4],
 }
 
 /// The slips that show how much an old answer hangs on the run's order.
@@ -110,14 +109,10 @@ const ORDERS: [(&str, Wrong); 4] = [
     ("run anew for each successor", Wrong::Recomputed),
 ];
 
-/// Does the slip change the old report?
-pub fn sensitive(bytes: &[u8], old_answer: &[u8], wrong: Wrong) -> bool {
-    match read(bytes) {
-        Ok(sheet) if missing(&sheet).is_none() => {
-            report("old", &old_faults(&sheet, wrong).0) != old_answer
-        }
-        _ => false,
-    }
+/// Does the slip change the old report, and does it change the old entry states?
+pub fn sensitive(sheet: &[u8], given: &Answers, wrong: Wrong) -> [bool; 2] {
+    let other = answers(sheet, Old::Plain, wrong);
+    [other[0] != given[0], other[2] != given[2]]
 }
 
 /// The kinds of fault in a report, a line each; a report with none is accepted.
@@ -143,7 +138,7 @@ impl Counts {
             lines: [[0; 8]; 2],
             house_only: 0,
             old_only: 0,
-            orders: [0; 4],
+            orders: [[0; 2]; 4],
         }
     }
 
@@ -167,7 +162,9 @@ impl Counts {
         self.old_only += (accepted[0] && !accepted[1]) as usize;
         self.house_only += (!accepted[0] && accepted[1]) as usize;
         for (at, (_, wrong)) in ORDERS.iter().enumerate() {
-            self.orders[at] += sensitive(sheet, &answers[0], *wrong) as usize;
+            let [report, states] = sensitive(sheet, answers, *wrong);
+            self.orders[at][0] += report as usize;
+            self.orders[at][1] += states as usize;
         }
     }
 
@@ -191,9 +188,9 @@ impl Counts {
         }
         println!("accepted by the old rule alone: {}", self.old_only);
         println!("accepted by the house rule alone: {}", self.house_only);
-        println!("old reports that change with the order of the run:");
+        println!("old answers that change with the order of the run:");
         for (at, (name, _)) in ORDERS.iter().enumerate() {
-            println!("  {}: {}", name, self.orders[at]);
+            println!("  {}: {} reports, {} entry states", name, self.orders[at][0], self.orders[at][1]);
         }
     }
 }

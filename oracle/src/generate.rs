@@ -1,18 +1,19 @@
-//! The generator of well-formed sheets: small, tangled, large, allocated, repaired, and allocated with
+//! The generator of well-formed sheets: small, tangled, knotted, ordered, large,
+//! allocated, repaired, and allocated with
 //! one wrong step. While it writes steps it keeps a guess of the cells, so that checks often pass.
 
 use crate::damage;
-use crate::house::house_faults;
+use crate::house::{house_effect, house_faults};
 use crate::plain::{old_effect, old_faults, Cell, State, Wrong};
 use crate::random::Random;
 use crate::report::Fault;
 use crate::sheet::{Block, Name, Operand, Sheet, Step, STEPS_LIMIT};
 
-pub const KINDS: [&str; 9] = [
-    "small", "tangled", "large", "allocated", "repaired", "wrong-step", "limits", "damaged",
-    "several",
+pub const KINDS: [&str; 11] = [
+    "small", "tangled", "knotted", "ordered", "large", "allocated", "repaired", "wrong-step",
+    "limits", "damaged", "several",
 ];
-const WEIGHTS: [usize; 9] = [300, 220, 4, 70, 80, 90, 40, 126, 70];
+const WEIGHTS: [usize; 11] = [240, 90, 100, 80, 4, 60, 80, 90, 40, 106, 110];
 
 /// The sheet of a seed and an index, with its kind.
 pub fn generate(seed: u64, index: u64) -> (usize, Vec<u8>) {
@@ -21,6 +22,8 @@ pub fn generate(seed: u64, index: u64) -> (usize, Vec<u8>) {
     let bytes = match KINDS[kind] {
         "small" => small(random).text(),
         "tangled" => tangled(random).text(),
+        "knotted" => knotted(random).text(),
+        "ordered" => ordered(random).text(),
         "large" => large(random).text(),
         "allocated" => allocated(random).text(),
         "repaired" => repaired(random).text(),
@@ -58,7 +61,7 @@ pub fn small(random: &mut Random) -> Sheet {
     graph(random, &mut sheet, blocks, &[15, 40, 33, 12]);
     let missing = if random.percent(6) { 15 } else { 0 };
     let shape = Shape {
-        letters: [40, 14, 12, 10, 12, 12],
+        letters: [34, 20, 12, 8, 12, 14],
         steps: 5,
         operands: if random.percent(10) { 8 } else { 2 },
         follow: *random.pick(&[30, 60, 85, 95]),
@@ -88,6 +91,79 @@ pub fn tangled(random: &mut Random) -> Sheet {
     };
     fill(random, &mut sheet, &shape);
     sheet
+}
+
+/// Blocks of short phrases on one or two slots: names are set marked and unmarked, passed on, copied,
+/// forgotten and asked for, so that what a block hands on depends on when it is visited.
+pub fn knotted(random: &mut Random) -> Sheet {
+    let mut sheet = Sheet {
+        regs: random.weighted(&[0, 70, 30]) as u32,
+        slots: random.weighted(&[0, 70, 30]) as u32,
+        vregs: random.within(1, 3) as u32,
+        ..Sheet::default()
+    };
+    let chance = *random.pick(&[60, 100, 100]);
+    sheet.reftyped = (0..sheet.vregs).filter(|_| random.percent(chance)).collect();
+    let blocks = random.within(3, 11);
+    graph(random, &mut sheet, blocks, &[1, 20, 42, 25, 10, 2]);
+    let asked = *random.pick(&[20, 50]);
+    for block in 0..blocks {
+        let mut steps = Vec::new();
+        if random.percent(asked) {
+            let slot = random.number(sheet.slots);
+            steps.push(Step::Safepoint { inst: any_inst(random), slots: vec![slot] });
+        }
+        for _ in 0..*random.pick(&[0, 1, 1, 1, 2]) {
+            phrase(random, &sheet, &mut steps);
+        }
+        sheet.blocks[block].steps = steps;
+    }
+    sheet
+}
+
+/// A knotted sheet whose old report changes with the order of the run, if one is found soon.
+pub fn ordered(random: &mut Random) -> Sheet {
+    let (order, tries) = *random.pick(&[
+        (Wrong::LastIn, 40),
+        (Wrong::LastIn, 40),
+        (Wrong::Backwards, 80),
+        (Wrong::Recomputed, 120),
+        (Wrong::NotTwice, 120),
+    ]);
+    let mut sheet = knotted(random);
+    for _ in 0..tries {
+        if old_faults(&sheet, order).0 != old_faults(&sheet, Wrong::Nothing).0 {
+            break;
+        }
+        sheet = knotted(random);
+    }
+    sheet
+}
+
+fn phrase(random: &mut Random, sheet: &Sheet, steps: &mut Vec<Step>) {
+    let inst = any_inst(random);
+    let reg = random.number(sheet.regs);
+    let slot = random.number(sheet.slots);
+    let name = Name::Virtual(random.number(sheet.vregs));
+    let other = Name::Virtual(random.number(sheet.vregs));
+    let to = if sheet.is_reftyped(name) == sheet.is_reftyped(other) { other } else { name };
+    let operand = Operand { name, reg: Some(reg) };
+    match random.below(10) {
+        0 | 1 => {
+            steps.push(Step::Op { inst, uses: Vec::new(), defs: vec![operand] });
+            steps.push(Step::Spill { slot, reg });
+        }
+        2..=5 => steps.push(Step::Change { inst, slot, from: name, to }),
+        6 | 7 => steps.push(Step::Safepoint { inst, slots: Vec::new() }),
+        8 => {
+            steps.push(Step::Reload { reg, slot });
+            steps.push(Step::Op { inst, uses: vec![operand], defs: Vec::new() });
+        }
+        _ => {
+            steps.push(Step::Reload { reg, slot });
+            steps.push(Step::Spill { slot: random.number(sheet.slots), reg });
+        }
+    }
 }
 
 pub fn large(random: &mut Random) -> Sheet {
@@ -130,18 +206,21 @@ fn graph(random: &mut Random, sheet: &mut Sheet, blocks: usize, counts: &[usize]
 }
 
 fn fill(random: &mut Random, sheet: &mut Sheet, shape: &Shape) {
-    let mut guess = State::entry(sheet, Cell::Absent);
+    let house = random.percent(60);
+    let mut guess = State::entry(sheet, Cell::Unknown);
     let mut total = 0;
     for block in 0..sheet.blocks.len() {
         if random.percent(15) {
-            guess = State::entry(sheet, Cell::Absent);
+            guess = State::entry(sheet, Cell::Unknown);
         }
         for _ in 0..random.within(0, shape.steps) {
             if total == STEPS_LIMIT {
                 return;
             }
             let step = any_step(random, sheet, shape, &guess);
-            if no_missing(&step) {
+            if no_missing(&step) && house {
+                house_effect(sheet, &step, &mut guess, Wrong::Nothing);
+            } else if no_missing(&step) {
                 old_effect(sheet, &step, &mut guess, Wrong::Nothing);
             }
             sheet.blocks[block].steps.push(step);
@@ -259,7 +338,11 @@ fn change(
     guess: &State,
     inst: u32,
 ) -> Step {
-    let slot = random.number(sheet.slots);
+    let mut slot = random.number(sheet.slots);
+    let filled: Vec<usize> = (0..guess.slots.len()).filter(|s| holds(guess.slots[*s])).collect();
+    if !filled.is_empty() && random.percent(70) {
+        slot = *random.pick(&filled) as u32;
+    }
     let mut from = any_name(random, sheet);
     if let Cell::Holds(name, _) = guess.slots[slot as usize] {
         if random.percent(shape.follow) {
@@ -287,12 +370,20 @@ fn safepoint(
     let follow = random.percent(shape.follow);
     let slots = (0..sheet.slots)
         .filter(|&slot| match guess.slots[slot as usize] {
-            Cell::Holds(_, true) if follow => random.percent(80),
+            Cell::Holds(_, true) => random.percent(70),
+            Cell::Holds(_, false) if !follow => random.percent(70),
             _ if follow => random.percent(4),
-            _ => random.percent(35),
+            _ => random.percent(25),
         })
         .collect();
     Step::Safepoint { inst, slots }
+}
+
+fn holds(cell: Cell) -> bool {
+    match cell {
+        Cell::Holds(_, _) => true,
+        _ => false,
+    }
 }
 
 /// A correct allocation: every name has a home slot, is spilled there whenever it is defined, and is

@@ -26,7 +26,8 @@ fn make_stale(state: &mut State, name: Name, becomes: Cell) {
     }
 }
 
-fn effect(sheet: &Sheet, step: &Step, state: &mut State, wrong: Wrong) {
+/// The house rule's effect of a step.
+pub fn house_effect(sheet: &Sheet, step: &Step, state: &mut State, wrong: Wrong) {
     let stale = if wrong == Wrong::StaleUnknown { Cell::Unknown } else { Cell::Conflicted };
     match step {
         Step::Spill { slot, reg } => state.slots[*slot as usize] = state.regs[*reg as usize],
@@ -65,7 +66,7 @@ fn run(sheet: &Sheet, wrong: Wrong) -> Vec<Option<State>> {
                 None => continue,
             };
             for step in &sheet.blocks[block].steps {
-                effect(sheet, step, &mut out, wrong);
+                house_effect(sheet, step, &mut out, wrong);
             }
             for &succ in &sheet.blocks[block].succs {
                 let met = match &states[succ as usize] {
@@ -92,7 +93,7 @@ pub fn house_faults(sheet: &Sheet, wrong: Wrong) -> (Vec<Fault>, Vec<(bool, Stat
         })
         .collect();
     let entry_states: Vec<State> = states.iter().map(|(_, state)| state.clone()).collect();
-    let effect = |step: &Step, state: &mut State| effect(sheet, step, state, wrong);
+    let effect = |step: &Step, state: &mut State| house_effect(sheet, step, state, wrong);
     let mut faults = find_faults(sheet, &entry_states, effect, wrong);
     if wrong == Wrong::UnreachedSkipped {
         faults.retain(|fault| states[fault.block].0);

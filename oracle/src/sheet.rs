@@ -77,10 +77,6 @@ impl Sheet {
         }
     }
 
-    pub fn step_count(&self) -> usize {
-        self.blocks.iter().map(|block| block.steps.len()).sum()
-    }
-
     /// The sheet's text.
     pub fn text(&self) -> Vec<u8> {
         let mut lines = vec![format!(
