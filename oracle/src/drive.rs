@@ -1,8 +1,9 @@
 //! Runs a product that speaks frames beside the oracle and compares all four answers.
 
-use crate::frames::{answers, read_frame, write_frame, Answers, Old};
+use crate::frames::{answers, plain_old_answer, read_frame, write_frame, Answers, Old};
 use crate::generate::{generate, KINDS};
 use crate::plain::Wrong;
+use crate::sheet::read;
 use crate::shrink::shrink;
 use std::io::{Cursor, Read};
 use std::process::{Child, Command, Stdio};
@@ -102,7 +103,7 @@ pub struct Counts {
 }
 
 /// The slips that show how much an old answer hangs on the run's order.
-const ORDERS: [(&str, Wrong); 4] = [
+pub const ORDERS: [(&str, Wrong); 4] = [
     ("last in, first out", Wrong::LastIn),
     ("successors backwards", Wrong::Backwards),
     ("no block waiting twice", Wrong::NotTwice),
@@ -111,8 +112,13 @@ const ORDERS: [(&str, Wrong); 4] = [
 
 /// Does the slip change the old report, and does it change the old entry states?
 pub fn sensitive(sheet: &[u8], given: &Answers, wrong: Wrong) -> [bool; 2] {
-    let other = answers(sheet, Old::Plain, wrong);
-    [other[0] != given[0], other[2] != given[2]]
+    match read(sheet) {
+        Ok(sheet) => {
+            let (report, states) = plain_old_answer(&sheet, wrong);
+            [report != given[0], states != given[2]]
+        }
+        Err(_) => [false; 2],
+    }
 }
 
 /// The kinds of fault in a report, a line each; a report with none is accepted.

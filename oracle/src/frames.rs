@@ -57,7 +57,8 @@ fn old_state_lines(list: Vec<State>) -> Vec<u8> {
     states(&marked)
 }
 
-fn plain_old_answer(sheet: &Sheet, wrong: Wrong) -> (Vec<u8>, Vec<u8>) {
+/// The old report and entry states of a read sheet by the plain implementation.
+pub fn plain_old_answer(sheet: &Sheet, wrong: Wrong) -> (Vec<u8>, Vec<u8>) {
     match missing(sheet) {
         Some(faults) => (report("old", &faults), Vec::new()),
         None => {

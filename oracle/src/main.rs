@@ -14,9 +14,11 @@ mod old;
 mod plain;
 mod random;
 mod report;
+mod selftest;
 mod sheet;
 mod shrink;
 mod stand_ins;
+mod store;
 
 // The build script links this path to the Rust crate, which stays where it is.
 #[path = "../../target/oracle/regalloc/src/checker.rs"]
@@ -36,7 +38,10 @@ use std::io::{self, Write};
 const USAGE: &str = "usage:
   oracle speak                       answers frames on standard input with four frames each
   oracle drive N SEED COMMAND        compares COMMAND, which speaks frames, on N sheets
-  oracle sheet SEED INDEX            writes one generated sheet";
+  oracle self-test N SEED            the tests of the tests
+  oracle sheet SEED INDEX            writes one generated sheet
+  oracle store FOLDER N SEED         writes the stored lists, chosen from N sheets
+  oracle check-stored FOLDER         holds the stored lists against the oracle";
 
 fn main() {
     let arguments: Vec<String> = std::env::args().skip(1).collect();
@@ -49,6 +54,13 @@ fn main() {
             number(sheets).and_then(|n| drive(n, number(seed)?, command))
         }
         ["sheet", seed, index] => number(seed).and_then(|s| one_sheet(s, number(index)?)),
+        ["self-test", sheets, seed] => {
+            number(sheets).and_then(|n| selftest::run(n, number(seed)?))
+        }
+        ["store", folder, sheets, seed] => {
+            number(sheets).and_then(|n| store::store(folder, n, number(seed)?))
+        }
+        ["check-stored", folder] => store::check(folder),
         _ => Err(USAGE.to_string()),
     };
     if let Err(message) = result {

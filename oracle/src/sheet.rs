@@ -171,29 +171,54 @@ pub fn read(bytes: &[u8]) -> Result<Sheet, Refusal> {
     read_with(bytes, false)
 }
 
+/// The conditions on a line of good form, in their order.
+const CONDITIONS: [(u32, fn(&Record, &Seen) -> bool); 6] = [
+    (4, out_of_place),
+    (5, beyond_limit),
+    (6, repeated_or_not_ascending),
+    (7, real_name_elsewhere),
+    (8, mixed_change),
+    (9, step_too_many),
+];
+
 /// A line's record, or the lowest number that applies to it.
 fn read_line(text: &[u8], seen: &Seen, swapped: bool) -> Result<Record, u32> {
     let record = match form(text) {
         Some(record) => record,
         None => return Err(3),
     };
-    let mut conditions: Vec<(u32, fn(&Record, &Seen) -> bool)> = vec![
-        (4, out_of_place),
-        (5, beyond_limit),
-        (6, repeated_or_not_ascending),
-        (7, real_name_elsewhere),
-        (8, mixed_change),
-        (9, step_too_many),
-    ];
+    let mut conditions = CONDITIONS;
     if swapped {
         conditions.swap(1, 2);
     }
-    for (number, applies) in conditions {
+    for (number, applies) in conditions.iter() {
         if applies(&record, seen) {
-            return Err(number);
+            return Err(*number);
         }
     }
     Ok(record)
+}
+
+/// Of the first bad line: its letter and every number that applies to it. Empty when there is none.
+pub fn broken(bytes: &[u8]) -> String {
+    let mut seen = Seen::default();
+    for text in bytes.split(|&byte| byte == b'\n') {
+        if let Ok(record) = read_line(text, &seen, false) {
+            take(record, &mut seen);
+            continue;
+        }
+        let letter = String::from_utf8_lossy(&text[..text.len().min(1)]).to_string();
+        let numbers: String = match form(text) {
+            None => "3".to_string(),
+            Some(record) => CONDITIONS
+                .iter()
+                .filter(|(_, applies)| applies(&record, &seen))
+                .map(|(number, _)| number.to_string())
+                .collect(),
+        };
+        return letter + &numbers;
+    }
+    String::new()
 }
 
 /// Adds a good line to what was seen.
