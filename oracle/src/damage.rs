@@ -196,11 +196,9 @@ fn large_limits() -> Vec<Vec<u8>> {
     list.push(sheet(&format!("F 1 1 1 2 0\nB\n{}B\nS 0 0\n", "S 0 0\n".repeat(1_024))));
     list.push(sheet(&format!("F 1 1 1 2 0\nB\n{}", "S 0 0\n".repeat(1_024))));
     list.push(sheet(&format!("F 1 1 1 2 0\nB\n{}", "S 0 0\n".repeat(1_025))));
-    for &length in &[SHEET_LIMIT - 1, SHEET_LIMIT, SHEET_LIMIT + 1] {
-        list.push(of_length(length));
-    }
-    list.push(vec![b'\n'; SHEET_LIMIT]);
-    list.push(vec![b'\n'; SHEET_LIMIT + 1]);
+    list.push(longest_report());
+    list.push(of_length(SHEET_LIMIT));
+    list.push(of_length(SHEET_LIMIT + 1));
     let mut open = of_length(SHEET_LIMIT);
     open[SHEET_LIMIT - 1] = b'0';
     list.push(open);
@@ -208,6 +206,13 @@ fn large_limits() -> Vec<Vec<u8>> {
     bad[SHEET_LIMIT - 2] = b'x';
     list.push(bad);
     list
+}
+
+/// One step that defines v254 in r31 and 1,023 that use v255 there, in block 63: the longest lines.
+fn longest_report() -> Vec<u8> {
+    let blocks = "B\n".repeat(64);
+    let steps = "O 65535 1 v255 31 0\n".repeat(1_023);
+    sheet(&format!("F 32 32 256 64 63\n{}O 65535 0 1 v254 31\n{}", blocks, steps))
 }
 
 /// A good sheet of exactly the given length: long operations, the last ones trimmed by their inst.
@@ -419,7 +424,7 @@ pub fn several(random: &mut Random) -> Vec<u8> {
         1 => blocks - 1,
         _ => blocks,
     };
-    let full = random.percent(6);
+    let full = random.percent(8);
     for block in 0..opened {
         lines.push("B".to_string());
         if full && block == 0 {
@@ -521,7 +526,43 @@ impl Bounds {
         text
     }
 
+    /// A line that often breaks one, two or three numbers above 4 at once; before the first block also 4, behind
+    /// 1,024 steps also 9.
+    fn pair_line(&self, random: &mut Random) -> String {
+        let (r, s, v) = (random.below(self.regs), random.below(self.slots), random.below(self.vregs));
+        let w = random.below(self.vregs);
+        let far = self.regs.max(self.slots).max(self.vregs) + random.below(3);
+        let inst = *random.pick(&[0, 9, 65_535]);
+        match random.below(24) {
+            0 => format!("P {} {} {}", inst, far, s),
+            1 => format!("P 65536 {} {}", s, s),
+            2 => format!("P {} {} {}", inst, s, s),
+            3 => format!("O {} 2 v{} {} v{} {} 0", inst, v, r, v, far),
+            4 => format!("O {} 0 2 v{} {} v{} {}", inst, v, far, w, far),
+            5 => format!("O 65536 0 2 v{} {} v{} {}", v, r, w, r),
+            6 => format!("O {} 2 v{} {} v{} {} 0", inst, far, r, far, r),
+            7 => format!("O 65536 1 r{} - 0", r),
+            8 => format!("O {} 1 r{} {} 0", inst, r, far),
+            9 => format!("O {} 1 r{} {} 1 v{} 0", inst, far, r, v),
+            10 => format!("O {} 1 r{} - 2 v{} {} v{} {}", inst, r, v, r, w, r),
+            11 => format!("O {} 2 r{} - r{} - 0", inst, r, r),
+            12 => format!("O {} 2 r{} - r{} {} 0", inst, r, r, far),
+            13 => format!("C 65536 {} v{} v{}", s, v, w),
+            14 => format!("C {} {} v{} v{}", inst, far, v, w),
+            15 => format!("C {} {} v{} v{}", inst, s, far, v),
+            16 => format!("T {}", far),
+            17 | 18 => format!("O {} 1 r{} - 0", inst, r),
+            19 => format!("O {} 0 1 r{} {}", inst, r, (r + 1) % self.regs),
+            20 | 21 => format!("C {} {} v{} v{}", inst, s, v, w),
+            22 => format!("C {} {} r{} v{}", inst, s, r, w),
+            _ => format!("T {}", v),
+        }
+    }
+
     fn line(&self, random: &mut Random) -> String {
+        if random.percent(30) {
+            return self.pair_line(random);
+        }
         let mut line = match random.below(12) {
             0..=3 => {
                 let uses = self.operands(random);

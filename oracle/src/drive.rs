@@ -3,8 +3,9 @@
 use crate::frames::{answers, plain_old_answer, read_frame, write_frame, Answers, Old};
 use crate::generate::{generate, KINDS};
 use crate::plain::Wrong;
-use crate::sheet::read;
+use crate::sheet::{broken, read};
 use crate::shrink::shrink;
+use std::collections::BTreeMap;
 use std::io::{Cursor, Read};
 use std::process::{Child, Command, Stdio};
 use std::sync::mpsc::{channel, Receiver};
@@ -93,6 +94,8 @@ impl Running {
 pub struct Counts {
     made: [usize; KINDS.len()],
     refused: [usize; 10],
+    /// Refused lines by all the numbers that apply to them, where these are several.
+    several: BTreeMap<String, usize>,
     /// For each rule: accepted sheets, then sheets with a fault of each kind.
     found: [[usize; 8]; 2],
     lines: [[usize; 8]; 2],
@@ -140,6 +143,7 @@ impl Counts {
         Counts {
             made: [0; KINDS.len()],
             refused: [0; 10],
+            several: BTreeMap::new(),
             found: [[0; 8]; 2],
             lines: [[0; 8]; 2],
             house_only: 0,
@@ -152,6 +156,10 @@ impl Counts {
         self.made[kind] += 1;
         if let Some(number) = refused_as(&answers[0]) {
             self.refused[number] += 1;
+            let (_, numbers) = broken(sheet);
+            if number > 2 && numbers.len() > 1 {
+                *self.several.entry(numbers).or_insert(0) += 1;
+            }
             return;
         }
         let mut accepted = [false; 2];
@@ -182,6 +190,10 @@ impl Counts {
         println!("refused (both rules):");
         for number in 2..10 {
             println!("  {:<12} {}", number, self.refused[number]);
+        }
+        println!("refused lines to which several numbers apply:");
+        for (numbers, count) in &self.several {
+            println!("  {:<12} {}", numbers, count);
         }
         for (rule, name) in ["old", "house"].iter().enumerate() {
             println!("{} rule: accepted {}", name, self.found[rule][0]);

@@ -123,6 +123,11 @@ fn drive(sheets: u64, seed: u64, command: &str) -> Result<(), String> {
             println!("seed {}, sheet {}: a difference; shrinking it", seed, found.index);
             let small = drive::shrink_difference(&plan.product, &found.sheet);
             drive::print_difference(&plan.product, &small)?;
+            let kept = std::env::current_exe()
+                .map_err(|e| e.to_string())?
+                .with_file_name(format!("difference-{}-{}.sheet", seed, found.index));
+            std::fs::write(&kept, &small).map_err(|e| e.to_string())?;
+            println!("kept as {}", kept.display());
             Err(format!("1 difference after {} sheets", found.index))
         }
     }

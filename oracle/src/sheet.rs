@@ -200,7 +200,7 @@ fn read_line(text: &[u8], seen: &Seen, swapped: bool) -> Result<Record, u32> {
 }
 
 /// Of the first bad line: its letter and every number that applies to it. Empty when there is none.
-pub fn broken(bytes: &[u8]) -> String {
+pub fn broken(bytes: &[u8]) -> (String, String) {
     let mut seen = Seen::default();
     for text in bytes.split(|&byte| byte == b'\n') {
         if let Ok(record) = read_line(text, &seen, false) {
@@ -216,9 +216,9 @@ pub fn broken(bytes: &[u8]) -> String {
                 .map(|(number, _)| number.to_string())
                 .collect(),
         };
-        return letter + &numbers;
+        return (letter, numbers);
     }
-    String::new()
+    (String::new(), String::new())
 }
 
 /// Adds a good line to what was seen.

@@ -7,9 +7,14 @@ use crate::generate::{generate, KINDS};
 use crate::plain::{reached, Wrong, WRONGS};
 use crate::report::refusal;
 use crate::sheet::{broken, read};
-use std::collections::HashMap;
+use std::collections::{BTreeMap, HashMap};
 use std::fs::File;
 use std::io::{BufReader, BufWriter, Write};
+
+/// Of the generated sheets the reader's list takes only those shorter than this.
+const SHORT_SHEET: usize = 1_000;
+/// Reports longer than this are near the longest.
+const LONG_REPORT: usize = 32_000;
 
 /// A sheet that may be stored, with its features: a name, and how often it is wanted.
 struct Candidate {
@@ -17,13 +22,16 @@ struct Candidate {
     features: Vec<(String, usize)>,
 }
 
-/// Takes the smallest sheets first, as long as they bring a feature that is still wanted.
-fn choose(mut candidates: Vec<Candidate>) -> Vec<Vec<u8>> {
+/// Takes the smallest sheets first, as long as they bring a feature that is still wanted. Gives the
+/// sheets and how many of them have each feature.
+fn choose(mut candidates: Vec<Candidate>) -> (Vec<Vec<u8>>, BTreeMap<String, usize>) {
     candidates.sort_by(|a, b| (a.sheet.len(), &a.sheet).cmp(&(b.sheet.len(), &b.sheet)));
     candidates.dedup_by(|a, b| a.sheet == b.sheet);
-    let mut counts: HashMap<String, usize> = HashMap::new();
+    let mut counts: BTreeMap<String, usize> = BTreeMap::new();
     let mut chosen = Vec::new();
-    for candidate in candidates {
+    for mut candidate in candidates {
+        candidate.features.sort();
+        candidate.features.dedup();
         let count = |name: &String| counts.get(name).cloned().unwrap_or(0);
         if candidate.features.iter().any(|(name, wanted)| count(name) < *wanted) {
             for (name, _) in candidate.features {
@@ -32,21 +40,24 @@ fn choose(mut candidates: Vec<Candidate>) -> Vec<Vec<u8>> {
             chosen.push(candidate.sheet);
         }
     }
-    chosen
+    (chosen, counts)
 }
 
-/// Writes both lists into a folder.
+/// Writes both lists into a folder, and what the first one covers.
 pub fn store(folder: &str, sheets: u64, seed: u64) -> Result<(), String> {
     let mut stored = File::create(format!("{}/answers.frames", folder)).map_err(text)?;
-    let chosen = choose(answer_candidates(sheets, seed));
+    let (chosen, covered) = choose(answer_candidates(sheets, seed));
     write_answers(&mut stored, &chosen).map_err(text)?;
+    let lines: String =
+        covered.iter().map(|(name, count)| format!("{:>5}  {}\n", count, name)).collect();
+    std::fs::write(format!("{}/coverage.txt", folder), lines).map_err(text)?;
     println!("answers.frames: {} sheets", chosen.len());
 
     let mut stored = File::create(format!("{}/reader.frames", folder)).map_err(text)?;
     let mut list = boundaries();
     list.sort_by(|a, b| (a.len(), a).cmp(&(b.len(), b)));
     list.dedup();
-    let more = choose(reader_candidates(sheets, seed));
+    let (more, _) = choose(reader_candidates(sheets, seed));
     list.extend(more.into_iter().filter(|sheet| !boundaries().contains(sheet)));
     write_reader(&mut stored, &list).map_err(text)?;
     println!("reader.frames: {} sheets", list.len());
@@ -88,13 +99,17 @@ fn answer_candidates(sheets: u64, seed: u64) -> Vec<Candidate> {
     let mut list = Vec::new();
     for index in 0..sheets {
         let (kind, sheet) = generate(seed, index);
-        let wanted = if KINDS[kind] == "large" { 2 } else { 8 };
+        let wanted = if KINDS[kind] == "large" { 1 } else { 8 };
         let mut features = answer_features(&sheet);
         features.push((format!("kind {}", KINDS[kind]), wanted));
         list.push(Candidate { sheet, features });
     }
     for sheet in boundaries() {
-        let features = answer_features(&sheet);
+        let mut features = answer_features(&sheet);
+        let report = answers(&sheet, Old::Plain, Wrong::Nothing)[1].len();
+        if report > LONG_REPORT {
+            features.push(("a long report".to_string(), 1));
+        }
         list.push(Candidate { sheet, features });
     }
     list
@@ -110,7 +125,7 @@ fn answer_features(sheet: &[u8]) -> Vec<(String, usize)> {
         }
     }
     if let Some(number) = refused_as(&given[0]) {
-        list.push((format!("refused {} {}", number, broken(sheet)), 1));
+        list.push((format!("refused {}", number), 6));
         return list;
     }
     for (rule, name) in ["old", "house"].iter().enumerate() {
@@ -121,7 +136,8 @@ fn answer_features(sheet: &[u8]) -> Vec<(String, usize)> {
         for kind in &kinds {
             list.push((format!("{} kind {}", name, kind), 8));
         }
-        list.push((format!("{} faults {}", name, size_class(kinds.len())), 3));
+        let class = size_class(kinds.len());
+        list.push((format!("{} faults {}", name, class), if class > 5 { 1 } else { 3 }));
     }
     for (name, wrong) in ORDERS.iter() {
         let [report, states] = sensitive(sheet, &given, *wrong);
@@ -219,10 +235,11 @@ fn reader_candidates(sheets: u64, seed: u64) -> Vec<Candidate> {
     let mut list = Vec::new();
     for index in 0..sheets {
         let (kind, sheet) = generate(seed, index);
-        if ["damaged", "several", "limits"].contains(&KINDS[kind]) {
+        let wanted = ["damaged", "several", "limits"].contains(&KINDS[kind]);
+        if wanted && sheet.len() < SHORT_SHEET {
             let answer = String::from_utf8_lossy(&reader_answer(&sheet)).to_string();
             let number: String = answer.chars().take(3).collect();
-            let features = vec![(format!("{} {}", number, broken(&sheet)), 4)];
+            let features = vec![(format!("{} {:?}", number, broken(&sheet)), 4)];
             list.push(Candidate { sheet, features });
         }
     }
