@@ -288,19 +288,34 @@ pub fn compare(plan: &Plan, counts: &mut Counts) -> Result<Option<Difference>, S
     Ok(None)
 }
 
-/// The product's answers to one sheet; fewer than four mean that it ended early.
+/// The product's answers to one sheet; none when it ended early.
 fn ask_one(product: &Product, sheet: &[u8]) -> Result<(Vec<Answers>, String), String> {
     Ok(product.start(&[sheet.to_vec()])?.finish())
 }
 
-/// Shrinks a difference.
+/// The first of the sheets on which the sides differ.
+fn first_difference(product: &Product, sheets: &[Vec<u8>]) -> Option<usize> {
+    let running = product.start(sheets).ok()?;
+    let expected: Vec<Answers> =
+        sheets.iter().map(|sheet| answers(sheet, Old::Rust, Wrong::Nothing)).collect();
+    let (given, _) = running.finish();
+    (0..sheets.len()).find(|&at| given.get(at) != Some(&expected[at]))
+}
+
+/// Do the sides differ on this sheet when no other goes before it?
+pub fn differs_alone(product: &Product, sheet: &[u8]) -> bool {
+    first_difference(product, &[sheet.to_vec()]).is_some()
+}
+
+/// Shrinks a sheet on which the sides differ when it stands alone.
 pub fn shrink_difference(product: &Product, start: &[u8]) -> Vec<u8> {
     shrink(start, &mut |sheets| {
-        let running = product.start(sheets).ok()?;
-        let expected: Vec<Answers> =
-            sheets.iter().map(|sheet| answers(sheet, Old::Rust, Wrong::Nothing)).collect();
-        let (given, _) = running.finish();
-        (0..sheets.len()).find(|&at| given.get(at) != Some(&expected[at]))
+        let at = first_difference(product, sheets)?;
+        if differs_alone(product, &sheets[at]) {
+            Some(at)
+        } else {
+            None
+        }
     })
 }
 

@@ -121,6 +121,10 @@ fn drive(sheets: u64, seed: u64, command: &str) -> Result<(), String> {
         }
         Some(found) => {
             println!("seed {}, sheet {}: a difference; shrinking it", seed, found.index);
+            if !drive::differs_alone(&plan.product, &found.sheet) {
+                print!("{}", drive::visible(&found.sheet));
+                return Err("the difference shows only behind other sheets".to_string());
+            }
             let small = drive::shrink_difference(&plan.product, &found.sheet);
             drive::print_difference(&plan.product, &small)?;
             let kept = std::env::current_exe()

@@ -188,13 +188,12 @@ fn fault_pairs(given: &Answers) -> Vec<(String, usize)> {
 fn cell_pairs(given: &Answers) -> Vec<(String, usize)> {
     let cells = |answer: &[u8]| -> Vec<String> {
         let text = String::from_utf8_lossy(answer).to_string();
-        text.split(|c| c == '\t' || c == '\n')
-            .map(|field| match field.chars().next() {
-                Some('r') | Some('v') if field.ends_with('*') => "marked".to_string(),
-                Some('r') | Some('v') => "name".to_string(),
-                _ => field.to_string(),
-            })
-            .collect()
+        let kind = |field: &str| match field.chars().next() {
+            Some('r') | Some('v') if field.ends_with('*') => "marked".to_string(),
+            Some('r') | Some('v') => "name".to_string(),
+            _ => field.to_string(),
+        };
+        text.lines().flat_map(|line| line.split('\t').skip(3).map(kind)).collect()
     };
     let (old, house) = (cells(&given[2]), cells(&given[3]));
     old.iter().zip(&house).map(|(a, b)| (format!("cell {} {}", a, b), 2)).collect()
