@@ -394,15 +394,15 @@ fn damage_lines(random: &mut Random, bytes: &mut Vec<u8>) {
         }
         3 => lines.swap(at, other),
         4 => {
-            let line = sheet(*random.pick(STEP_LINES));
+            let line = sheet(random.pick::<&str>(STEP_LINES));
             lines.insert(at, line);
         }
         5 => {
-            let line = sheet(*random.pick(T_LINES));
+            let line = sheet(random.pick::<&str>(T_LINES));
             lines.insert(at, line);
         }
         _ => {
-            let line = sheet(*random.pick(F_LINES));
+            let line = sheet(random.pick::<&str>(F_LINES));
             lines[at] = line;
         }
     }

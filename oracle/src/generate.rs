@@ -380,10 +380,7 @@ fn safepoint(
 }
 
 fn holds(cell: Cell) -> bool {
-    match cell {
-        Cell::Holds(_, _) => true,
-        _ => false,
-    }
+    matches!(cell, Cell::Holds(_, _))
 }
 
 /// A correct allocation: every name has a home slot, is spilled there whenever it is defined, and is
