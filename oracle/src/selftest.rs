@@ -10,7 +10,7 @@ use crate::sheet::read;
 
 /// Cases of document 01 and of the design: a sheet, the old report and the house report without their
 /// headers. Lines are parted by `/`, fields by blanks.
-const CASES: &[(&str, &str, &str)] = &[
+pub const CASES: &[(&str, &str, &str)] = &[
     // The whole example.
     (
         "F 2 1 1 1 0/B/O 7 0 1 v0 0/S 0 0/O 8 1 v0 1 0/",
@@ -108,7 +108,8 @@ fn known() -> Result<(), String> {
     Ok(())
 }
 
-fn as_text(line: &str) -> Vec<u8> {
+/// The sheet of a case.
+pub fn as_text(line: &str) -> Vec<u8> {
     line.replace('/', "\n").replace(' ', "\t").into_bytes()
 }
 

@@ -6,6 +6,7 @@ use crate::frames::{answers, read_frame, write_frame, Answers, Old};
 use crate::generate::{generate, KINDS};
 use crate::plain::{reached, Wrong, WRONGS};
 use crate::report::refusal;
+use crate::selftest::{as_text, CASES};
 use crate::sheet::{broken, read};
 use std::collections::{BTreeMap, HashMap};
 use std::fs::File;
@@ -14,7 +15,7 @@ use std::io::{BufReader, BufWriter, Write};
 /// Of the generated sheets the reader's list takes only those shorter than this.
 const SHORT_SHEET: usize = 1_000;
 /// Reports longer than this are near the longest.
-const LONG_REPORT: usize = 32_000;
+const LONG_REPORT: usize = 31_000;
 
 /// A sheet that may be stored, with its features: a name, and how often it is wanted.
 struct Candidate {
@@ -103,6 +104,10 @@ fn answer_candidates(sheets: u64, seed: u64) -> Vec<Candidate> {
         let mut features = answer_features(&sheet);
         features.push((format!("kind {}", KINDS[kind]), wanted));
         list.push(Candidate { sheet, features });
+    }
+    for (number, (case, _, _)) in CASES.iter().enumerate() {
+        let features = vec![(format!("case {} of document 01", number), 1)];
+        list.push(Candidate { sheet: as_text(case), features });
     }
     for sheet in boundaries() {
         let mut features = answer_features(&sheet);
