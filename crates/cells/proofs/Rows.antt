@@ -1,0 +1,374 @@
+-- Rows and states: the steps of the loops, and what two rows make of a state.
+use mathlib.Core.Path.{_≡_, refl, sym, ap, ap₂, _∙_}
+use mathlib.Core.Bool.{Bool, true, false, cond, not, _||_}
+use mathlib.Core.List.{List, [], _∷_, map}
+use Prim.Native.Nat.{ℕ, zero, suc, _+_, _-_, _*_, _/_, _%_, _^_, _≤_, _<_}
+use native.Mathlib.Nat.{zero-add, pow-suc, div-div-eq-div-mul, mul-comm, div-one, pow-zero, add-zero}
+use native.Mathlib.Numerals.{add-one}
+use native.Mathlib.Omega.{arith}
+use borrow.Author.Tests.{eq-eqb, ne-eqb, eqb-true, eqb-false, not-false, le-ltb}
+use lib.Dec.{eqb}
+use lib.ListN.{length, getD, set, take, length-take, length-map, replicate}
+use lib.Seq.{set-getD}
+use Rattle.lists.specs.Over.{over, over-none, over-more, over-step, getD-over-in, getD-over-above}
+use Rattle.lists.specs.Region.{region, length-region, getD-region, region-below, region-above, filled}
+use Rattle.lists.specs.Maps.{any-step, map-set, map-take, take-over, region-over, copied-over}
+use Rattle.lists.specs.Kept.{Kept, kept-over, kept-then}
+use Rattle.lists.specs.Bits.{bits-from, set-bits, no-bits}
+use Rattle.paper.specs.Text.{Name, real}
+use Rattle.paper.specs.Sheet.{Sheet, listed}
+use Rattle.paper.specs.Cells.{Cell, absent, named}
+use Rattle.paper.specs.Cells as paper
+use Rattle.paper.specs.Steps.{State, cell-at, store-at, everywhere, placed, safepoint-row, row-of, unfilled, entry-state, unreached-state}
+use Rattle.paper.specs.Runs.{both, meet-states}
+use Rattle.paper.specs.declared.Rule.{Rule}
+use Rattle.paper.specs.declared.Rule.the-variants.{Old, House}
+use Rattle.cells.specs.Packed.{name-of-word, marked, of-kind, cell-of}
+use Rattle.cells.specs.Meeting.{meet-word}
+use Rattle.cells.specs.States.{cells-of, state-of, rows-at, stored-state, changes, meet-at, MetWith, Stored}
+use Rattle.cells.specs.Laws.{made, cell-in, state-cell, state-store}
+use Rattle.cells.proofs.Laws.{met-meaning, met-moves}
+
+-- a loop over the cells of a row, after i of them: what each of those means now
+pub record Reached (i : ℕ) (f : ℕ → Cell → Cell) (row₀ row : List ℕ) : Type 0 where
+  pub cells : map cell-of row ≡ over 0 i f (map cell-of row₀)
+
+pub none-reached : {f : ℕ → Cell → Cell} {row : List ℕ} → Reached 0 f row row
+none-reached {f} {row} = record { cells = sym (over-none 0 f (map cell-of row)) }
+
+-- one cell more, changed or left
+module _ {i : ℕ} {f : ℕ → Cell → Cell} {row₀ row : List ℕ} (r : Reached i f row₀ row) where
+  pub cell-step : (v : ℕ) → cell-of v ≡ f i (cell-of (getD row i 0)) → Reached (i + 1) f row₀ (set row i v)
+  cell-step v e = record {
+    cells =
+        map-set cell-of row i v
+        ∙ any-step i f (map cell-of row₀) absent (map cell-of row) (cell-of v) (r .cells) (e ∙ ap (f i) (sym (cell-in row i)));
+  }
+
+  pub cell-stays : cell-of (getD row i 0) ≡ f i (cell-of (getD row i 0)) → Reached (i + 1) f row₀ row
+  cell-stays e = rw set-getD at (cell-step (getD row i 0) e)
+
+placed-over : (n : ℕ) (f : ℕ → Cell → Cell) (l : List Cell) → length l ≤ n → over 0 n f l ≡ placed f l
+unfolding over placed
+placed-over n f [] h = refl
+placed-over zero f (x ∷ l) h = absurd (omega arith)
+placed-over (suc n) f (x ∷ l) h = ap (λ t. f 0 x ∷ t) (placed-over n (λ k. f (suc k)) l (omega arith))
+
+pub placed-all : {A : Type 0} (f : A → A) (l : List A) → placed (λ k. f) l ≡ map f l
+unfolding placed
+placed-all f [] = refl
+placed-all f (x ∷ l) = ap (λ t. f x ∷ t) (placed-all f l)
+
+placed-same : {A : Type 0} (f g : ℕ → A → A) (l : List A) → ((i : ℕ) (x : A) → i < length l → f i x ≡ g i x) → placed f l ≡ placed g l
+unfolding placed
+placed-same f g [] e = refl
+placed-same f g (x ∷ l) e = ap₂ (λ a t. a ∷ t) (e 0 x (omega arith)) (placed-same (λ i. f (suc i)) (λ i. g (suc i)) l (λ i y h. e (suc i) y (omega arith)))
+
+-- the loop's end
+pub cells-done : {n : ℕ} {f : ℕ → Cell → Cell} {row₀ row : List ℕ} → Reached n f row₀ row → cells-of n row ≡ placed f (cells-of n row₀)
+unfolding cells-of
+cells-done {n} {f} {row₀} {row} r =
+    map-take cell-of n row ∙ ap (take n) (r .cells) ∙ take-over n f (map cell-of row₀)
+    ∙ placed-over n f (take n (map cell-of row₀)) (simp length-take (omega arith))
+    ∙ ap (placed f) (sym (map-take cell-of n row₀))
+
+-- the bits of a mask, listed
+listed-below : (k i m n : ℕ) → n < i → listed (bits-from k i m) n ≡ false
+unfolding listed bits-from
+listed-below zero i m n h = refl
+listed-below (suc k) i m n h = go (eqb (m % 2) 1) (bits-from k (i + 1) (m / 2)) (listed-below k (i + 1) (m / 2) n (omega arith))
+  where
+    go : (b : Bool) (rest : List ℕ) → listed rest n ≡ false → listed (cond b (i ∷ rest) rest) n ≡ false
+    go true rest e = rw (ne-eqb i n (omega arith), e)
+    go false rest e = e
+
+listed-from : (k i m j : ℕ) → j < k → listed (bits-from k i m) (i + j) ≡ eqb (m / 2 ^ j % 2) 1
+unfolding listed bits-from
+listed-from zero i m j h = absurd (omega arith)
+listed-from (suc k) i m zero h = rw (pow-zero, div-one, add-zero) (go (eqb (m % 2) 1))
+  where
+    go : (b : Bool) → listed (cond b (i ∷ bits-from k (i + 1) (m / 2)) (bits-from k (i + 1) (m / 2))) i ≡ b
+    go true = rw (eq-eqb i i refl)
+    go false = listed-below k (i + 1) (m / 2) i (omega arith)
+listed-from (suc k) i m (suc j) h =
+    let half : m / 2 ^ suc j ≡ m / 2 / 2 ^ j = ap (λ (p : ℕ). m / p) (pow-suc 2 j ∙ mul-comm (2 ^ j) 2) ∙ sym (div-div-eq-div-mul m 2 (2 ^ j)) in
+    let place : i + suc j ≡ i + 1 + j = omega arith in
+    rw (half, place) (go (eqb (m % 2) 1) (bits-from k (i + 1) (m / 2)) (listed-from k (i + 1) (m / 2) j (omega arith)))
+  where
+    go : (b : Bool) (rest : List ℕ) {x : Bool} → listed rest (i + 1 + j) ≡ x → listed (cond b (i ∷ rest) rest) (i + 1 + j) ≡ x
+    go true rest e = rw (ne-eqb i (i + 1 + j) (omega arith)) e
+    go false rest e = e
+
+listed-bit : (m j : ℕ) → j < 32 → listed (set-bits m) j ≡ eqb (m / 2 ^ j % 2) 1
+unfolding set-bits
+listed-bit m j h = rw zero-add at (listed-from 32 0 m j h)
+
+-- a cell whose bit is clear is collected, and one whose bit is set stays
+module _ (m j : ℕ) (h : j < 32) {A : Type 0} (x y : A) where
+  pub bit-clear : m / 2 ^ j % 2 ≡ 0 → y ≡ cond (listed (set-bits m) j) x y
+  bit-clear e = rw (listed-bit m j h, e)
+
+  pub bit-set : (m / 2 ^ j % 2 ≡ 0 → ⊥) → x ≡ cond (listed (set-bits m) j) x y
+  bit-set d = let e : m / 2 ^ j % 2 ≡ 1 = omega arith in rw (listed-bit m j h, e)
+
+none-listed : (f : Cell → Cell) (l : List Cell) → placed (λ i c. cond (listed (set-bits 0) i) c (f c)) l ≡ map f l
+unfolding listed
+none-listed f l = rw no-bits (placed-all f l)
+
+-- a state whose two rows were changed, each by its own function
+pub two-rows : (n m : ℕ) (f : ℕ → List Cell → List Cell) (s : List (List ℕ)) (a b : List ℕ) → length s ≡ 2
+    → cells-of n a ≡ f 0 (cells-of n (getD s 0 [])) → cells-of m b ≡ f 1 (cells-of m (getD (set s 0 a) 1 []))
+    → state-of (n ∷ m ∷ []) (set (set s 0 a) 1 b) ≡ placed f (state-of (n ∷ m ∷ []) s)
+unfolding state-of placed
+two-rows n m f [] a b e ea eb = absurd (omega arith)
+two-rows n m f (x ∷ []) a b e ea eb = absurd (omega arith)
+two-rows n m f (x ∷ y ∷ []) a b e ea eb = ap₂ (λ p q. p ∷ q ∷ []) ea eb
+two-rows n m f (x ∷ y ∷ z ∷ s) a b e ea eb = absurd (omega arith)
+
+pub every-row : (n m : ℕ) (f : Cell → Cell) (s : List (List ℕ)) (a b : List ℕ) → length s ≡ 2
+    → cells-of n a ≡ map f (cells-of n (getD s 0 [])) → cells-of m b ≡ map f (cells-of m (getD (set s 0 a) 1 []))
+    → state-of (n ∷ m ∷ []) (set (set s 0 a) 1 b) ≡ everywhere f (state-of (n ∷ m ∷ []) s)
+unfolding everywhere
+every-row n m f s a b e ea eb = two-rows n m (λ k. map f) s a b e ea eb ∙ placed-all (map f) _
+
+pub safepoint-rows : (rule : Rule) (n m mask : ℕ) (s : List (List ℕ)) (a b : List ℕ) → length s ≡ 2
+    → cells-of n a ≡ placed (λ i c. cond (listed (set-bits 0) i) c (paper.collected rule c)) (cells-of n (getD s 0 []))
+    → cells-of m b ≡ placed (λ i c. cond (listed (set-bits mask) i) c (paper.collected rule c)) (cells-of m (getD (set s 0 a) 1 []))
+    → state-of (n ∷ m ∷ []) (set (set s 0 a) 1 b) ≡ placed (safepoint-row rule (set-bits mask)) (state-of (n ∷ m ∷ []) s)
+unfolding safepoint-row
+safepoint-rows rule n m mask s a b e ea eb = two-rows n m (safepoint-row rule (set-bits mask)) s a b e (ea ∙ none-listed (paper.collected rule) _) eb
+
+-- one cell copied
+pub copied-cell : (s : List (List ℕ)) (row place other from v : ℕ) → cell-of v ≡ paper.copied (cell-of (getD (getD s other []) from 0))
+    → (counts : List ℕ) → from < getD counts other 0
+    → state-of counts (set s row (set (getD s row []) place v)) ≡ store-at row place (paper.copied (cell-at (state-of counts s) other from)) (state-of counts s)
+copied-cell s row place other from v e counts h =
+    state-store counts s row place v
+    ∙ ap (λ (c : Cell). store-at row place c (state-of counts s)) (e ∙ ap paper.copied (sym (state-cell counts s other from h)))
+
+-- a state in lent words
+stored-two : (n m at : ℕ) (w : List ℕ) → stored-state (n ∷ m ∷ []) at w ≡ map cell-of (region at n w) ∷ map cell-of (region (at + 32) m w) ∷ []
+unfolding stored-state rows-at state-of cells-of region
+stored-two n m at w = refl
+
+pub filled-front : (at n : ℕ) (l row₀ row : List ℕ) → row ≡ over 0 n (λ k x. getD l (at + k) 0) row₀ → n ≤ length row₀ → at + n ≤ length l → take n row ≡ region at n l
+filled-front at n l row₀ row e hr hl =
+    ap (take n) e ∙ take-over n (λ k x. getD l (at + k) 0) row₀ ∙ filled at n l (take n row₀) (simp length-take (omega arith)) hl
+
+pub loaded : (n m at : ℕ) (w a b : List ℕ) → take n a ≡ region at n w → take m b ≡ region (at + 32) m w → state-of (n ∷ m ∷ []) (a ∷ b ∷ []) ≡ stored-state (n ∷ m ∷ []) at w
+unfolding state-of cells-of
+loaded n m at w a b ea eb = rw (ea, eb) (sym (stored-two n m at w))
+
+-- two rows changed in lent words, one after the other
+module _ (at n m : ℕ) (f g : ℕ → ℕ → ℕ) (l l₁ l₂ : List ℕ) (hn : n ≤ 32) (hm : m ≤ 32) (room : at + 64 ≤ length l)
+    (e₁ : l₁ ≡ over at n f l) (e₂ : l₂ ≡ over (at + 32) m g l₁) where
+  kept₁ : Kept at n l l₁
+  kept₁ = rw e₁ (kept-over at n f l)
+
+  kept₂ : Kept (at + 32) m l₁ l₂
+  kept₂ = rw e₂ (kept-over (at + 32) m g l₁)
+
+  pub kept-rows : Kept at 64 l l₂
+  kept-rows = kept-then at 64 kept₁ kept₂ (omega arith) (omega arith) (omega arith) (omega arith)
+
+  first-row : region at n l₂ ≡ over 0 n f (region at n l)
+  first-row =
+      let k : length l₁ ≡ length l = kept₁ .same-length in
+      let below : region at n (over (at + 32) m g l₁) ≡ region at n l₁ = region-below (at + 32) m g l₁ at n (omega arith) (omega arith) in
+      rw (e₂, below, e₁) (region-over at n f l)
+
+  second-region : region (at + 32) m l₁ ≡ region (at + 32) m l
+  second-region = rw e₁ (region-above at n f l (at + 32) m (omega arith) (omega arith))
+
+  second-row : region (at + 32) m l₂ ≡ over 0 m g (region (at + 32) m l)
+  second-row = rw (e₂, region-over (at + 32) m g l₁, second-region)
+
+-- a state written
+pub stored : (at n m : ℕ) (l l₁ l₂ : List ℕ) (s : List (List ℕ)) → n ≤ 32 → m ≤ 32 → at + 64 ≤ length l
+    → length s ≡ 2 → length (getD s 0 []) ≡ 32 → length (getD s 1 []) ≡ 32
+    → l₁ ≡ over at n (λ k w. getD (getD s 0 []) k 0) l → l₂ ≡ over (at + 32) m (λ k w. getD (getD s 1 []) k 0) l₁
+    → Stored (n ∷ m ∷ []) at s l l₂
+unfolding state-of cells-of
+stored at n m l l₁ l₂ (x ∷ y ∷ []) hn hm room es ex ey e₁ e₂ = record {
+  meaning =
+      stored-two n m at l₂
+      ∙ ap₂ (λ p q. map cell-of p ∷ map cell-of q ∷ [])
+      (first-row at n m _ _ l l₁ l₂ hn hm room e₁ e₂ ∙ copied-over n x _ 0 (length-region at n l (omega arith)) (omega arith))
+      (second-row at n m _ _ l l₁ l₂ hn hm room e₁ e₂ ∙ copied-over m y _ 0 (length-region (at + 32) m l (omega arith)) (omega arith));
+  kept = kept-rows at n m _ _ l l₁ l₂ hn hm room e₁ e₂;
+}
+stored at n m l l₁ l₂ [] hn hm room es ex ey e₁ e₂ = absurd (omega arith)
+stored at n m l l₁ l₂ (x ∷ []) hn hm room es ex ey e₁ e₂ = absurd (omega arith)
+stored at n m l l₁ l₂ (x ∷ y ∷ z ∷ s) hn hm room es ex ey e₁ e₂ = absurd (omega arith)
+
+-- a row met into words, cell by cell
+met-over : (rule : Rule) (n : ℕ) (row l : List ℕ) → length l ≡ n → n ≤ length row → map cell-of (over 0 n (meet-at rule row) l) ≡ both (paper.meet rule) (map cell-of l) (cells-of n row)
+unfolding over both cells-of
+met-over rule zero row [] e h = refl
+met-over rule zero row (x ∷ l) e h = absurd (omega arith)
+met-over rule (suc n) row [] e h = absurd (omega arith)
+met-over rule (suc n) [] (x ∷ l) e h = absurd (omega arith)
+met-over rule (suc n) (y ∷ row) (x ∷ l) e h = ap₂ (λ a t. a ∷ t) (met-meaning rule x y) (met-over rule n row l (omega arith) (omega arith))
+
+or-true : (b : Bool) → b || true ≡ true
+or-true true = refl
+or-true false = refl
+
+or-false : (b : Bool) → b || false ≡ b
+or-false true = refl
+or-false false = refl
+
+-- a loop's step, and whether it changed its word
+module _ (f : ℕ → ℕ → ℕ) (at i : ℕ) (l words : List ℕ) (new : ℕ) (h : at + i < length l) (ew : words ≡ over at i f l) (en : new ≡ f i (getD words (at + i) 0)) where
+  old-is : getD words (at + i) 0 ≡ getD l (at + i) 0
+  old-is = rw ew (getD-over-above at i f l (at + i) 0 (omega arith))
+
+  new-is : new ≡ f i (getD l (at + i) 0)
+  new-is = en ∙ ap (f i) old-is
+
+  pub word-step : set words (at + i) new ≡ over at (i + 1) f l
+  word-step = over-step at i f l 0 words new h ew en
+
+  pub word-moved : (new ≡ getD words (at + i) 0 → ⊥) → true ≡ changes at (i + 1) f l
+  unfolding changes
+  word-moved d = rw (add-one, ne-eqb _ _ (λ e. d (new-is ∙ e ∙ sym old-is)), or-true)
+
+  pub word-stays : (b : Bool) → b ≡ changes at i f l → new ≡ getD words (at + i) 0 → b ≡ changes at (i + 1) f l
+  unfolding changes
+  word-stays b eb e = rw (add-one, eq-eqb _ _ (sym new-is ∙ e ∙ old-is), or-false) eb
+
+-- `changes` is exact: where it is false the list stays, and where the cells stay it is false
+or-none : (a b : Bool) → a || b ≡ false → (a ≡ false) × (b ≡ false)
+or-none true b e = let z : _≡_ {A = ℕ} 0 1 = cc in absurd (omega arith)
+or-none false b e = (refl, e)
+
+unchanged : (at n : ℕ) (f : ℕ → ℕ → ℕ) (l : List ℕ) → at + n ≤ length l → changes at n f l ≡ false → over at n f l ≡ l
+unfolding changes
+unchanged at zero f l h e = over-none at f l
+unchanged at (suc n) f l h e =
+    let p : (changes at n f l ≡ false) × (not (eqb (f n (getD l (at + n) 0)) (getD l (at + n) 0)) ≡ false) = or-none _ _ e in
+    let same : f n (getD l (at + n) 0) ≡ getD l (at + n) 0 = eqb-true _ _ (not-false _ (p .1)) in
+    let more : set (over at n f l) (at + n) (f n (getD l (at + n) 0)) ≡ over at (suc n) f l = rw add-one at (over-more at n f l 0 (omega arith)) in
+    sym more ∙ rw (same, unchanged at n f l (omega arith) (p .0)) (set-getD l (at + n) 0)
+
+still : (at n : ℕ) (f : ℕ → ℕ → ℕ) (l : List ℕ) → ((k : ℕ) → k < n → f k (getD l (at + k) 0) ≡ getD l (at + k) 0) → changes at n f l ≡ false
+unfolding changes
+still at zero f l h = refl
+still at (suc n) f l h = rw (still at n f l (λ k q. h k (omega arith)), eq-eqb _ _ (h n (omega arith)))
+
+same-word : (rule : Rule) (a b : ℕ) → cell-of (meet-word rule a b) ≡ cell-of a → meet-word rule a b ≡ a
+same-word rule a b e = go (eqb (meet-word rule a b) a) refl
+  where
+    go : (x : Bool) → eqb (meet-word rule a b) a ≡ x → meet-word rule a b ≡ a
+    go true h = eqb-true _ _ h
+    go false h = absurd (met-moves rule a b (eqb-false _ _ h) e)
+
+same-cells : (rule : Rule) (row : List ℕ) (at n : ℕ) (l : List ℕ) → at + n ≤ length l
+    → map cell-of (region at n (over at n (meet-at rule row) l)) ≡ map cell-of (region at n l) → changes at n (meet-at rule row) l ≡ false
+same-cells rule row at n l h e =
+    still at n (meet-at rule row) l λ k q.
+    let new : getD (region at n (over at n (meet-at rule row) l)) k 0 ≡ meet-word rule (getD l (at + k) 0) (getD row k 0) =
+    getD-region at n (over at n (meet-at rule row) l) k q ∙ getD-over-in at n (meet-at rule row) l k 0 q (omega arith) in
+    let old : getD (region at n l) k 0 ≡ getD l (at + k) 0 = getD-region at n l k q in
+    same-word rule (getD l (at + k) 0) (getD row k 0)
+    (ap cell-of (sym new)
+    ∙ sym (cell-in (region at n (over at n (meet-at rule row) l)) k)
+    ∙ ap (λ (t : List Cell). getD t k absent) e
+    ∙ cell-in (region at n l) k
+    ∙ ap cell-of old)
+
+-- a state met into the one that stands in lent words
+pub met-with : (rule : Rule) (at n m : ℕ) (l l₁ l₂ : List ℕ) (s : List (List ℕ)) (a b : Bool) → n ≤ 32 → m ≤ 32 → at + 64 ≤ length l
+    → length s ≡ 2 → length (getD s 0 []) ≡ 32 → length (getD s 1 []) ≡ 32
+    → (l₁ ≡ over at n (meet-at rule (getD s 0 [])) l) × (a ≡ changes at n (meet-at rule (getD s 0 [])) l)
+    → (l₂ ≡ over (at + 32) m (meet-at rule (getD s 1 [])) l₁) × (b ≡ changes (at + 32) m (meet-at rule (getD s 1 [])) l₁)
+    → MetWith rule (n ∷ m ∷ []) at s l l₂ (a || b)
+unfolding state-of meet-states both
+met-with rule at n m l l₁ l₂ (x ∷ y ∷ []) a b hn hm room es ex ey e₁ e₂ =
+    let f : ℕ → ℕ → ℕ = meet-at rule x in
+    let g : ℕ → ℕ → ℕ = meet-at rule y in
+    let k₁ : length l₁ ≡ length l = kept₁ at n m f g l l₁ l₂ hn hm room (e₁ .0) (e₂ .0) .same-length in
+    let r₁ : region at n l₂ ≡ over 0 n f (region at n l) = first-row at n m f g l l₁ l₂ hn hm room (e₁ .0) (e₂ .0) in
+    let r₂ : region (at + 32) m l₂ ≡ over 0 m g (region (at + 32) m l) = second-row at n m f g l l₁ l₂ hn hm room (e₁ .0) (e₂ .0) in
+    let same : region (at + 32) m l₁ ≡ region (at + 32) m l = second-region at n m f g l l₁ l₂ hn hm room (e₁ .0) (e₂ .0) in
+    let meaning : stored-state (n ∷ m ∷ []) at l₂ ≡ meet-states rule (stored-state (n ∷ m ∷ []) at l) (cells-of n x ∷ cells-of m y ∷ []) =
+    rw (stored-two n m at l₂, stored-two n m at l)
+    (ap₂ (λ p q. p ∷ q ∷ [])
+    (ap (map cell-of) r₁ ∙ met-over rule n x (region at n l) (length-region at n l (omega arith)) (omega arith))
+    (ap (map cell-of) r₂ ∙ met-over rule m y (region (at + 32) m l) (length-region (at + 32) m l (omega arith)) (omega arith))) in
+    record {
+      meaning = meaning;
+      kept = kept-rows at n m f g l l₁ l₂ hn hm room (e₁ .0) (e₂ .0);
+      still = λ e.
+          let p : (a ≡ false) × (b ≡ false) = or-none a b e in
+          let s₁ : l₁ ≡ l = e₁ .0 ∙ unchanged at n f l (omega arith) (sym (e₁ .1) ∙ p .0) in
+          e₂ .0 ∙ unchanged (at + 32) m g l₁ (omega arith) (sym (e₂ .1) ∙ p .1) ∙ s₁;
+      moved = λ t e.
+          let all : map cell-of (region at n l₂) ∷ map cell-of (region (at + 32) m l₂) ∷ [] ≡ map cell-of (region at n l) ∷ map cell-of (region (at + 32) m l) ∷ [] =
+          sym (stored-two n m at l₂) ∙ meaning ∙ e ∙ stored-two n m at l in
+          let c₁ : map cell-of (region at n l₂) ≡ map cell-of (region at n l) = cc in
+          let c₂ : map cell-of (region (at + 32) m l₂) ≡ map cell-of (region (at + 32) m l) = cc in
+          let fa : a ≡ false = e₁ .1 ∙ same-cells rule x at n l (omega arith) (ap (map cell-of) (region-over at n f l ∙ sym r₁) ∙ c₁) in
+          let fb : b ≡ false =
+          e₂ .1 ∙ same-cells rule y (at + 32) m l₁ (omega arith)
+          (ap (map cell-of) (region-over (at + 32) m g l₁ ∙ ap (over 0 m g) same ∙ sym r₂) ∙ c₂ ∙ ap (map cell-of) (sym same)) in
+          let none : a || b ≡ false = rw (fa, fb) in
+          let z : _≡_ {A = ℕ} 0 1 = cc in
+          omega arith;
+    }
+met-with rule at n m l l₁ l₂ [] a b hn hm room es ex ey e₁ e₂ = absurd (omega arith)
+met-with rule at n m l l₁ l₂ (x ∷ []) a b hn hm room es ex ey e₁ e₂ = absurd (omega arith)
+met-with rule at n m l l₁ l₂ (x ∷ y ∷ z ∷ s) a b hn hm room es ex ey e₁ e₂ = absurd (omega arith)
+
+-- the states at the start
+own-name : (i : ℕ) → i < 32 → name-of-word (3328 + i) ≡ real i
+unfolding name-of-word
+own-name i h =
+    let low : (3328 + i) % 512 ≡ 256 + i = omega arith in
+    let past : 256 + i - 256 ≡ i = omega arith in
+    rw (low, le-ltb (256 + i) 256 (omega arith), past)
+
+pub own-cell : (i : ℕ) → i < 32 → cell-of (3328 + i) ≡ named (real i) false
+unfolding marked
+own-cell i h = made (3328 + i) (3328 + i) 0 (omega arith) refl (omega arith) ∙ ap (λ (n : Name). named n false) (own-name i h)
+
+placed-row : (f : ℕ → Cell) (l : List Cell) → placed (λ k c. f k) l ≡ row-of (length l) f
+unfolding placed row-of
+placed-row f [] = refl
+placed-row f (x ∷ l) = ap (λ t. f 0 ∷ t) (placed-row (λ k. f (suc k)) l)
+
+pub row-done : {n : ℕ} {f : ℕ → Cell} {row₀ row : List ℕ} → Reached n (λ k c. f k) row₀ row → n ≤ length row₀ → cells-of n row ≡ row-of n f
+unfolding cells-of
+row-done {n} {f} {row₀} {row} r h =
+    let len : length (map cell-of (take n row₀)) ≡ n = simp (length-map, length-take) (omega arith) in
+    cells-done r ∙ placed-row f (map cell-of (take n row₀)) ∙ ap (λ (k : ℕ). row-of k f) len
+
+cells-same : (n m w : ℕ) → n ≤ m → cells-of n (replicate m w) ≡ replicate n (cell-of w)
+unfolding cells-of
+cells-same zero m w h = refl
+cells-same (suc n) zero w h = absurd (omega arith)
+cells-same (suc n) (suc m) w h = ap (λ t. cell-of w ∷ t) (cells-same n m w (omega arith))
+
+module _ (rule : Rule) (S : Sheet) (slots : S .slots ≤ 32) where
+  pub unreached : (w : ℕ) → cell-of w ≡ unfilled rule → S .regs ≤ 32 → state-of (S .regs ∷ S .slots ∷ []) (replicate 2 (replicate 32 w)) ≡ unreached-state rule S
+  unfolding state-of unreached-state
+  unreached w e regs = rw (cells-same (S .regs) 32 w regs, cells-same (S .slots) 32 w slots, e)
+
+  pub entered : (s : List (List ℕ)) (row : List ℕ) (n : ℕ) → length s ≡ 2 → S .regs ≡ n → state-of (S .regs ∷ S .slots ∷ []) s ≡ unreached-state rule S
+      → cells-of n row ≡ row-of n (λ i. named (real i) false) → state-of (S .regs ∷ S .slots ∷ []) (set s 0 row) ≡ entry-state rule S
+  unfolding state-of unreached-state entry-state
+  entered [] row n e en es er = absurd (omega arith)
+  entered (x ∷ []) row n e en es er = absurd (omega arith)
+  entered (x ∷ y ∷ []) row n e en es er =
+      let own : cells-of (S .regs) row ≡ row-of (S .regs) (λ i. named (real i) false) = rw en er in
+      let rest : cells-of (S .slots) y ≡ replicate (S .slots) (unfilled rule) = cc in
+      ap₂ (λ a b. a ∷ b ∷ []) own rest
+  entered (x ∷ y ∷ z ∷ s) row n e en es er = absurd (omega arith)
+
+pub old-unfilled : cell-of 0 ≡ unfilled Old
+unfolding cell-of of-kind unfilled
+old-unfilled = refl
+
+pub house-unfilled : cell-of 1024 ≡ unfilled House
+unfolding cell-of of-kind unfilled
+house-unfilled = refl

@@ -1,0 +1,21 @@
+use native.Mathlib.Omega.{arith}
+use borrow.Author.Needs.{needs}
+use Rattle.cells.proofs.Rows.{entered}
+use Rattle.cells.proofs.entry_state.Statement.{statement}
+use Rattle.cells.proofs.entry_state.Tie as tie
+
+unreached-state-requires : tie.Need-unreached-state-requires
+unreached-state-requires c κs = search needs
+
+real-row-requires : tie.Need-real-row-requires
+real-row-requires c κs = search needs
+
+array-set-from-s : tie.Need-array-set-from-s
+array-set-from-s c = search needs
+
+returns : tie.Need-returns
+returns c = λ S regs slots. entered _ S slots _ _ _ (search needs) regs (c .before .unreached-state .ensures S (omega arith) slots) (c .real-row .ensures)
+
+pub entry-state-spec : {M : Type 1} → statement M
+entry-state-spec =
+    tie.close (tie.spec unreached-state-requires real-row-requires array-set-from-s returns)

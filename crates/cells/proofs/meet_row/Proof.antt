@@ -1,0 +1,98 @@
+use mathlib.Core.Logic.{⊎-elim}
+use mathlib.Core.Path.{_≡_, refl, sym, _∙_}
+use Prim.Native.Nat.{_+_, _≤_, _<_, _-_}
+use native.Mathlib.Omega.{arith}
+use borrow.Author.Needs.{needs}
+use lib.ListN.{length, length-set}
+use Rattle.lists.specs.Over.{over, over-none}
+use Rattle.cells.specs.States.{changes, meet-at}
+use Rattle.cells.proofs.Rows.{word-step, word-moved, word-stays}
+use Rattle.cells.proofs.meet_row.Statement.{statement}
+use Rattle.cells.proofs.meet_row.Tie as tie
+
+abbrev Inv-loop : tie.InvT-loop
+Inv-loop table rule words₀ at row n changed₀ i₀ words changed i =
+    (i ≤ n)
+    × (length words ≡ length words₀)
+    × (words ≡ over at i (meet-at rule row) words₀)
+    × (changed ≡ changes at i (meet-at rule row) words₀)
+
+abbrev μ-loop : tie.MeasureT-loop
+μ-loop table rule words₀ at row n changed₀ i₀ words changed i = n - i
+
+loop-holds : tie.Need-loop-holds Inv-loop μ-loop
+unfolding changes
+loop-holds c = (search needs, refl, sym (over-none _ _ _), refl)
+
+add-j : tie.Need-add-j Inv-loop μ-loop
+add-j c = search needs
+
+mul-old : tie.Need-mul-old Inv-loop μ-loop
+mul-old c = search needs
+
+slice-read-old : tie.Need-slice-read-old Inv-loop μ-loop
+slice-read-old c = search needs
+
+mul-meet : tie.Need-mul-meet Inv-loop μ-loop
+mul-meet c = search needs
+
+element-copy-out-meet : tie.Need-element-copy-out-meet Inv-loop μ-loop
+element-copy-out-meet c = search needs
+
+meet-requires : tie.Need-meet-requires Inv-loop μ-loop
+meet-requires c κs = search needs
+
+mul-words : tie.Need-mul-words Inv-loop μ-loop
+mul-words c = search needs
+
+slice-write-words : tie.Need-slice-write-words Inv-loop μ-loop
+slice-write-words c = search needs
+
+add-i : tie.Need-add-i Inv-loop μ-loop
+add-i c = search needs
+
+loop-less : tie.Need-loop-less Inv-loop μ-loop
+loop-less c = search needs
+
+loop-again : tie.Need-loop-again Inv-loop μ-loop
+loop-again c =
+    let l = c .before .before .before .before .before in
+    let inv = l .loop .inv in
+    let fits : l .before .before .args .at + l .loop .i < length (l .before .before .args .words .now) = omega arith in (
+      omega arith,
+      simp length-set (inv .1),
+      word-step _ _ _ _ _ _ fits (inv .2) (c .before .meet .ensures .0),
+      ⊎-elim
+          (λ w. w .1 ∙ word-moved _ _ _ _ _ _ fits (inv .2) (c .before .meet .ensures .0) (w .0 .taken))
+          (λ w. w .1 ∙ word-stays _ _ _ _ _ _ fits (inv .2) (c .before .meet .ensures .0) _ (inv .3) (w .0 .left))
+          (c .if1 .came),
+    )
+
+same-length : tie.Need-same-length Inv-loop μ-loop
+same-length c = search needs
+
+returns : tie.Need-returns Inv-loop μ-loop
+returns c =
+    let e : c .before .loop .i ≡ c .before .before .before .args .n = omega arith in
+    (rw (← e) (c .before .loop .inv .2), rw (← e) (c .before .loop .inv .3))
+
+pub meet-row-spec : {M : Type 1} → statement M
+meet-row-spec =
+    tie.close
+    (tie.spec
+    Inv-loop
+    μ-loop
+    loop-holds
+    add-j
+    mul-old
+    slice-read-old
+    mul-meet
+    element-copy-out-meet
+    meet-requires
+    mul-words
+    slice-write-words
+    add-i
+    loop-less
+    loop-again
+    same-length
+    returns)

@@ -1,0 +1,31 @@
+use borrow.Author.Needs.{needs}
+use Rattle.cells.proofs.Rows.{every-row}
+use Rattle.cells.proofs.overwrite.Statement.{statement}
+use Rattle.cells.proofs.overwrite.Tie as tie
+
+index-1-overwrite-row : tie.Need-index-1-overwrite-row
+index-1-overwrite-row c = search needs
+
+overwrite-row-requires : tie.Need-overwrite-row-requires
+overwrite-row-requires c κs = search needs
+
+index-1-overwrite-row-2 : tie.Need-index-1-overwrite-row-2
+index-1-overwrite-row-2 c = search needs
+
+overwrite-row-requires-2 : tie.Need-overwrite-row-requires-2
+overwrite-row-requires-2 c κs = search needs
+
+returns : tie.Need-returns
+returns c =
+    let s = c .before .before .before .before in
+    every-row _ _ _ (s .args .t1) _ _ (search needs) (c .before .before .overwrite-row .ensures) (c .overwrite-row2 .ensures)
+
+pub overwrite-spec : {M : Type 1} → statement M
+overwrite-spec =
+    tie.close
+    (tie.spec
+    index-1-overwrite-row
+    overwrite-row-requires
+    index-1-overwrite-row-2
+    overwrite-row-requires-2
+    returns)

@@ -1,0 +1,4 @@
+pub mod Packed
+pub mod Meeting
+pub mod States
+pub mod Laws

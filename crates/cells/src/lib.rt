@@ -1,0 +1,290 @@
+// Packed cells, their meet by a table, and a state of two rows of 32 cells by value.
+ghost use mathlib.Core.Path.{_≡_};
+ghost use mathlib.Core.Bool.{false, cond};
+ghost use mathlib.Core.List.{List, [], _∷_, map};
+ghost use Prim.Native.Nat.{ℕ, _+_, _≤_, _<_};
+ghost use lib.ListN.{length, getD, take};
+ghost use Rattle.lists.specs.Over.{over};
+ghost use Rattle.lists.specs.Region.{region};
+ghost use Rattle.lists.specs.Bits.{set-bits};
+ghost use Rattle.paper.specs.Text.{real};
+ghost use Rattle.paper.specs.Sheet.{Sheet, listed};
+ghost use Rattle.paper.specs.Cells as paper;
+ghost use Rattle.paper.specs.Steps.{cell-at, store-at, everywhere, placed, safepoint-row, row-of, entry-state, unreached-state};
+ghost use Rattle.cells.specs.Packed.{name-of-word, marked, cell-of};
+ghost use Rattle.cells.specs.Meeting.{rule-index, meet-table, meet-word};
+ghost use Rattle.cells.specs.States.{cells-of, state-of, stored-state, changes, meet-at, MetWith, Stored};
+use paper::Rule;
+
+pub type State = [[u16; 32]; 2];
+
+pub type Table = [[[u8; 4]; 4]; 2];
+
+// Which side wins the meet, by rule, left kind and right kind: 0 the left, 1 the right, 2 both are names.
+pub const MEET: [[[u8; 4]; 4]; 2] = [
+    [[0, 1, 1, 1], [0, 0, 1, 1], [0, 0, 0, 0], [0, 0, 1, 2]],
+    [[0, 0, 0, 0], [1, 0, 0, 0], [1, 1, 0, 0], [1, 1, 1, 2]],
+];
+
+pub fn rule_index(rule: Rule) -> usize
+    ensures { λ r. ⌜ r ≡ rule-index rule ⌝ }
+{
+    match rule {
+        Rule::Old => 0,
+        Rule::House => 1,
+    }
+}
+
+pub fn meet(table: &[[[u8; 4]; 4]; 2], rule: Rule, a: u16, b: u16) -> u16
+    requires { ⌜ now table ≡ meet-table ⌝ }
+    ensures { λ r. ⌜ (r ≡ meet-word rule a b) × (cell-of r ≡ paper.meet rule (cell-of a) (cell-of b)) ⌝ }
+{
+    let k = rule_index(rule);
+    let left = (a / 1024 % 4) as usize;
+    let right = (b / 1024 % 4) as usize;
+    let side = table[k][left][right];
+    if side == 0 {
+        return a;
+    }
+    if side == 1 {
+        return b;
+    }
+    if a % 512 != b % 512 {
+        return 2048;
+    }
+    if a / 512 % 2 == 1 {
+        return a;
+    }
+    if b / 512 % 2 == 1 { b } else { a }
+}
+
+pub fn copied(w: u16) -> u16
+    ensures { λ r. ⌜ cell-of r ≡ paper.copied (cell-of w) ⌝ }
+{
+    if w / 1024 % 4 == 0 { 1024 } else { w }
+}
+
+pub fn overwritten(name: u16, w: u16) -> u16
+    ensures { λ r. ⌜ cell-of r ≡ paper.overwritten (name-of-word name) (cell-of w) ⌝ }
+{
+    if w / 1024 % 4 == 3 {
+        if w % 512 == name % 512 { 2048 } else { w }
+    } else {
+        w
+    }
+}
+
+pub fn overwrite_row(row: &mut [u16; 32], n: usize, name: u16)
+    requires { ⌜ n ≤ 32 ⌝ }
+    ensures { λ r. ⌜ cells-of n (now (row .exit)) ≡ map (paper.overwritten (name-of-word name)) (cells-of n (now (row .entry))) ⌝ }
+{
+    let mut i = 0;
+    while i < n {
+        row[i] = overwritten(name, row[i]);
+        i += 1;
+    }
+}
+
+pub fn overwrite(mut s: State, regs: usize, slots: usize, name: u16) -> State
+    requires { ⌜ (regs ≤ 32) × (slots ≤ 32) ⌝ }
+    ensures { λ r. ⌜ state-of (regs ∷ slots ∷ []) r ≡ everywhere (paper.overwritten (name-of-word name)) (state-of (regs ∷ slots ∷ []) s) ⌝ }
+{
+    overwrite_row(&mut s[0], regs, name);
+    overwrite_row(&mut s[1], slots, name);
+    s
+}
+
+pub fn old_changed(to: u16, w: u16) -> u16
+    ensures { λ r. ⌜ cell-of r ≡ paper.old-changed (name-of-word to) (cell-of w) ⌝ }
+{
+    if w / 1024 % 4 == 3 {
+        3072 + w / 512 % 2 * 512 + to % 512
+    } else {
+        3072 + to % 512
+    }
+}
+
+pub fn house_changed(from: u16, to: u16, w: u16) -> u16
+    ensures { λ r. ⌜ cell-of r ≡ paper.house-changed (name-of-word from) (name-of-word to) (cell-of w) ⌝ }
+{
+    if w / 1024 % 4 != 3 {
+        return w;
+    }
+    if w % 512 == from % 512 {
+        3072 + w / 512 % 2 * 512 + to % 512
+    } else {
+        2048
+    }
+}
+
+// What a safepoint leaves of a marked name: Unknown under the old rule, Conflicted under the house rule.
+pub fn collected(rule: Rule, w: u16) -> u16
+    ensures { λ r. ⌜ cell-of r ≡ paper.collected rule (cell-of w) ⌝ }
+{
+    if w / 1024 % 4 != 3 {
+        return w;
+    }
+    if w / 512 % 2 == 0 {
+        return w;
+    }
+    match rule {
+        Rule::Old => 1024,
+        Rule::House => 2048,
+    }
+}
+
+// The first n cells of a row at a safepoint; bit i of `kept` is set where cell i keeps its name.
+pub fn collect_row(rule: Rule, row: &mut [u16; 32], n: usize, kept: u32)
+    requires { ⌜ n ≤ 32 ⌝ }
+    ensures { λ r. ⌜ cells-of n (now (row .exit)) ≡ placed (λ i c. cond (listed (set-bits kept) i) c (paper.collected rule c)) (cells-of n (now (row .entry))) ⌝ }
+{
+    let mut i = 0;
+    while i < n {
+        if (kept >> i) % 2 == 0 {
+            row[i] = collected(rule, row[i]);
+        }
+        i += 1;
+    }
+}
+
+// The state behind a safepoint that lists the slots of a mask.
+pub fn update_stackmap(rule: Rule, mut s: State, regs: usize, slots: usize, mask: u32) -> State
+    requires { ⌜ (regs ≤ 32) × (slots ≤ 32) ⌝ }
+    ensures { λ r. ⌜ state-of (regs ∷ slots ∷ []) r ≡ placed (safepoint-row rule (set-bits mask)) (state-of (regs ∷ slots ∷ []) s) ⌝ }
+{
+    collect_row(rule, &mut s[0], regs, 0);
+    collect_row(rule, &mut s[1], slots, mask);
+    s
+}
+
+// One cell copied to another, as `S`, `L` and `M` do.
+pub fn copy(mut s: State, row: usize, place: usize, other: usize, from: usize) -> State
+    requires { ⌜ (row < 2) × (place < 32) × (other < 2) × (from < 32) ⌝ }
+    ensures { λ r. ⌜ ((counts : List ℕ) → from < getD counts other 0 → state-of counts r ≡ store-at row place (paper.copied (cell-at (state-of counts s) other from)) (state-of counts s)) ⌝ }
+{
+    s[row][place] = copied(s[other][from]);
+    s
+}
+
+// A row met into the n words from `at` on: whether a word changed.
+pub fn meet_row(
+    table: &[[[u8; 4]; 4]; 2],
+    rule: Rule,
+    words: &mut [u16],
+    at: usize,
+    row: &[u16; 32],
+    n: usize,
+) -> bool
+    requires { ⌜ (now table ≡ meet-table) × (at + n ≤ length (now words)) × (n ≤ 32) ⌝ }
+    ensures { λ r. ⌜ (now (words .exit) ≡ over at n (meet-at rule (now (row .entry))) (now (words .entry))) × (r ≡ changes at n (meet-at rule (now (row .entry))) (now (words .entry))) ⌝ }
+{
+    let mut changed = false;
+    let mut i = 0;
+    while i < n {
+        let j = at + i;
+        let old = words[j];
+        let new = meet(table, rule, old, row[i]);
+        words[j] = new;
+        if new != old {
+            changed = true;
+        }
+        i += 1;
+    }
+    changed
+}
+
+// A state met into the one that stands at `at`: whether a cell changed.
+pub fn meet_with(
+    table: &[[[u8; 4]; 4]; 2],
+    rule: Rule,
+    words: &mut [u16],
+    at: usize,
+    s: State,
+    regs: usize,
+    slots: usize,
+) -> bool
+    requires { ⌜ (now table ≡ meet-table) × (at + 64 ≤ length (now words)) × (regs ≤ 32) × (slots ≤ 32) ⌝ }
+    ensures { λ r. ⌜ MetWith rule (regs ∷ slots ∷ []) at s (now (words .entry)) (now (words .exit)) r ⌝ }
+{
+    let a = meet_row(table, rule, words, at, &s[0], regs);
+    let b = meet_row(table, rule, words, at + 32, &s[1], slots);
+    a | b
+}
+
+// A row read from the n words from `at` on.
+pub fn load_row(words: &[u16], at: usize, n: usize) -> [u16; 32]
+    requires { ⌜ (at + n ≤ length (now words)) × (n ≤ 32) ⌝ }
+    ensures { λ r. ⌜ take n r ≡ region at n (now (words .entry)) ⌝ }
+{
+    let mut row = [0u16; 32];
+    let mut i = 0;
+    while i < n {
+        row[i] = words[at + i];
+        i += 1;
+    }
+    row
+}
+
+// The state that stands at `at`.
+pub fn load(words: &[u16], at: usize, regs: usize, slots: usize) -> State
+    requires { ⌜ (at + 64 ≤ length (now words)) × (regs ≤ 32) × (slots ≤ 32) ⌝ }
+    ensures { λ r. ⌜ state-of (regs ∷ slots ∷ []) r ≡ stored-state (regs ∷ slots ∷ []) at (now (words .entry)) ⌝ }
+{
+    let a = load_row(words, at, regs);
+    let b = load_row(words, at + 32, slots);
+    [a, b]
+}
+
+pub fn store_row(words: &mut [u16], at: usize, row: &[u16; 32], n: usize)
+    requires { ⌜ (at + n ≤ length (now words)) × (n ≤ 32) ⌝ }
+    ensures { λ r. ⌜ now (words .exit) ≡ over at n (λ k w. getD (now (row .entry)) k 0) (now (words .entry)) ⌝ }
+{
+    let mut i = 0;
+    while i < n {
+        words[at + i] = row[i];
+        i += 1;
+    }
+}
+
+pub fn store(words: &mut [u16], at: usize, s: State, regs: usize, slots: usize)
+    requires { ⌜ (at + 64 ≤ length (now words)) × (regs ≤ 32) × (slots ≤ 32) ⌝ }
+    ensures { λ r. ⌜ Stored (regs ∷ slots ∷ []) at s (now (words .entry)) (now (words .exit)) ⌝ }
+{
+    store_row(words, at, &s[0], regs);
+    store_row(words, at + 32, &s[1], slots);
+}
+
+// Registers 0 to n - 1, each holding its own name.
+pub fn real_row(n: usize) -> [u16; 32]
+    requires { ⌜ n ≤ 32 ⌝ }
+    ensures { λ r. ⌜ cells-of n r ≡ row-of n (λ i. paper.named (real i) false) ⌝ }
+{
+    let mut row = [0u16; 32];
+    let mut i = 0;
+    while i < n {
+        row[i] = 3328 + i as u16;
+        i += 1;
+    }
+    row
+}
+
+// The state of a block that no walk reaches.
+pub fn unreached_state(rule: Rule) -> State
+    ensures { λ r. ⌜ ((S : Sheet) → S .regs ≤ 32 → S .slots ≤ 32 → state-of (S .regs ∷ S .slots ∷ []) r ≡ unreached-state rule S) ⌝ }
+{
+    match rule {
+        Rule::Old => [[0u16; 32]; 2],
+        Rule::House => [[1024u16; 32]; 2],
+    }
+}
+
+// The state at the start of the entry block.
+pub fn entry_state(rule: Rule, regs: usize) -> State
+    requires { ⌜ regs ≤ 32 ⌝ }
+    ensures { λ r. ⌜ ((S : Sheet) → S .regs ≡ regs → S .slots ≤ 32 → state-of (S .regs ∷ S .slots ∷ []) r ≡ entry-state rule S) ⌝ }
+{
+    let mut s = unreached_state(rule);
+    let row = real_row(regs);
+    s[0] = row;
+    s
+}

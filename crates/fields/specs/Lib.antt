@@ -1,0 +1,4 @@
+pub mod Fields
+pub mod Cursor
+pub mod Spelling
+pub mod Told

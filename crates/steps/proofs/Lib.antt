@@ -1,0 +1,3 @@
+pub mod PackingLaws
+pub mod CheckLaws
+pub mod EffectLaws

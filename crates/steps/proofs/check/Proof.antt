@@ -1,0 +1,111 @@
+use mathlib.Core.Option.{none}
+use mathlib.Core.List.{List, [], _∷_}
+use mathlib.Core.Path.{_≡_, refl}
+use Prim.Native.Nat.{ℕ}
+use native.Mathlib.Omega.{arith}
+use borrow.Author.Needs.{needs}
+use types.Run.{OneOf, miss}
+use denote.Enum.Declared.{tagOf}
+use Rattle.steps.specs.declared.Action.the-variants.{Spill, Reload, Move, Change, Operation, Safepoint}
+use Rattle.steps.specs.declared.Action.{Action}
+use Rattle.steps.specs.Faults.{fault-of}
+use Rattle.steps.specs.Actions.{step-of}
+use Rattle.steps.proofs.CheckLaws.{change-means-in, uses-mean, slots-mean}
+use Rattle.steps.proofs.Action.{the-type}
+use Rattle.steps.proofs.check.Statement.{statement}
+use Rattle.paper.specs.Steps as paper
+use Rattle.steps.proofs.check.Tie as tie
+
+quiet : (words : List ℕ) (a : Action) (S : paper.State) → OneOf (0 ∷ 1 ∷ 2 ∷ []) (tagOf the-type a) → none ≡ paper.check (step-of words a) S
+unfolding paper.check step-of
+quiet words (Spill k r) S h = refl
+quiet words (Reload r k) S h = refl
+quiet words (Move into from) S h = refl
+quiet words (Change inst k from to) S h = absurd (miss (0 ∷ 1 ∷ 2 ∷ []) 3 tt h)
+quiet words (Operation inst at n m) S h = absurd (miss (0 ∷ 1 ∷ 2 ∷ []) 4 tt h)
+quiet words (Safepoint inst mask) S h = absurd (miss (0 ∷ 1 ∷ 2 ∷ []) 5 tt h)
+
+enum-known-action : tie.Need-enum-known-action
+enum-known-action c = search needs
+
+mul-check-change : tie.Need-mul-check-change
+mul-check-change c = omega (arith, rw (c .before .action .given .1) at (c .before .before .before .before .pre))
+
+index-1-check-change : tie.Need-index-1-check-change
+index-1-check-change c = search needs
+
+index-2-check-change : tie.Need-index-2-check-change
+index-2-check-change c = omega (arith, rw (c .before .action .given .1) at (c .before .before .before .before .pre))
+
+check-change-requires : tie.Need-check-change-requires
+check-change-requires c κs = search needs
+
+enum-known-action-2 : tie.Need-enum-known-action-2
+enum-known-action-2 c = search needs
+
+index-1-check-uses : tie.Need-index-1-check-uses
+index-1-check-uses c = search needs
+
+check-uses-requires : tie.Need-check-uses-requires
+check-uses-requires c κs =
+    let a = c .before .before in
+    let r = rw (a .action2 .given .1) at (a .before .before .before .pre) in
+    (omega arith, r .3)
+
+enum-known-action-3 : tie.Need-enum-known-action-3
+enum-known-action-3 c = search needs
+
+index-1-check-stackmap : tie.Need-index-1-check-stackmap
+index-1-check-stackmap c = search needs
+
+check-stackmap-requires : tie.Need-check-stackmap-requires
+check-stackmap-requires c κs = search needs
+
+returns : tie.Need-returns
+unfolding step-of paper.check
+returns c =
+    let a = c .before .before .before in
+    let s = a .before .before .before in
+    λ regs slots h.
+    rw (a .action .given .1, c .check-change .ensures) (change-means-in (regs ∷ slots ∷ []) (s .args .t2) _ _ (rw (a .action .given .1) at h))
+
+returns-2 : tie.Need-returns-2
+unfolding step-of paper.check
+returns-2 c =
+    let a = c .before .before .before in
+    let s = a .before .before .before in
+    let r = rw (a .action2 .given .1) at (s .pre) in
+    λ regs slots h.
+    rw (a .action2 .given .1, c .check-uses .ensures) (uses-mean (regs ∷ slots ∷ []) (s .args .t2) _ _ _ (omega arith) (r .3) ((rw (a .action2 .given .1) at h) .3))
+
+returns-3 : tie.Need-returns-3
+unfolding step-of paper.check
+returns-3 c =
+    let a = c .before .before .before in
+    let s = a .before .before .before in
+    λ regs slots h.
+    rw (a .action3 .given .1, c .check-stackmap .ensures) (slots-mean (regs ∷ slots ∷ []) (s .args .t2) _ (rw (a .action3 .given .1) at h))
+
+returns-4 : tie.Need-returns-4
+unfolding fault-of
+returns-4 c = let s = c .before .before in λ regs slots h. quiet (s .args .words .now) (s .args .action) _ (c .match .keys4)
+
+pub check-spec : {M : Type 1} → statement M
+check-spec =
+    tie.close
+    (tie.spec
+    enum-known-action
+    mul-check-change
+    index-1-check-change
+    index-2-check-change
+    check-change-requires
+    enum-known-action-2
+    index-1-check-uses
+    check-uses-requires
+    enum-known-action-3
+    index-1-check-stackmap
+    check-stackmap-requires
+    returns
+    returns-2
+    returns-3
+    returns-4)

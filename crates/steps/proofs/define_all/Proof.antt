@@ -1,0 +1,71 @@
+use mathlib.Core.List.{[], _∷_}
+use mathlib.Core.Path.{_≡_, refl, _∙_}
+use Prim.Native.Nat.{_+_, _/_, _≤_, _<_}
+use native.Mathlib.Omega.{arith}
+use borrow.Author.Needs.{needs}
+use Rattle.lists.specs.Regions.{at-place}
+use Rattle.lists.specs.Region.{region}
+use Rattle.cells.specs.States.{state-of}
+use Rattle.steps.specs.Defs.{define-words}
+use Rattle.steps.proofs.EffectLaws.{no-def, next-def}
+use Rattle.steps.proofs.define_all.Statement.{statement}
+use Rattle.steps.proofs.define_all.Tie as tie
+
+abbrev Inv-loop : tie.InvT-loop
+Inv-loop words at n rule regs slots t₀ place₀ left₀ t place left =
+    (place + left ≡ at + n) × (at ≤ place)
+    × (define-words rule (region place left words) (state-of (regs ∷ slots ∷ []) t) ≡ define-words rule (region at n words) (state-of (regs ∷ slots ∷ []) t₀))
+
+abbrev μ-loop : tie.MeasureT-loop
+μ-loop words at n rule regs slots t₀ place₀ left₀ t place left = left
+
+loop-holds : tie.Need-loop-holds Inv-loop μ-loop
+loop-holds c = (refl, search needs, refl)
+
+mul-define : tie.Need-mul-define Inv-loop μ-loop
+mul-define c = search needs
+
+shared-slice-read-define : tie.Need-shared-slice-read-define Inv-loop μ-loop
+shared-slice-read-define c = search needs
+
+define-requires : tie.Need-define-requires Inv-loop μ-loop
+define-requires c κs =
+    let l = c .before .before in
+    let s = l .before .before in
+    (s .pre .1, s .pre .2, at-place (λ w. w / 1024 < s .args .regs) _ _ (s .args .words .now) _ (s .pre .3) (l .loop .inv .1) (omega arith))
+
+add-place : tie.Need-add-place Inv-loop μ-loop
+add-place c = search needs
+
+sub-left : tie.Need-sub-left Inv-loop μ-loop
+sub-left c = search needs
+
+loop-less : tie.Need-loop-less Inv-loop μ-loop
+loop-less c = search needs
+
+loop-again : tie.Need-loop-again Inv-loop μ-loop
+loop-again c =
+    let l = c .before .before .before in (
+      omega arith,
+      omega arith,
+      rw (c .define .ensures) (next-def _ _ _ _ _ (c .before .before .loop-test .taken) (omega arith)) ∙ l .loop .inv .2,
+    )
+
+returns : tie.Need-returns Inv-loop μ-loop
+returns c = no-def _ _ _ _ _ (c .loop-test .left) ∙ c .before .loop .inv .2
+
+pub define-all-spec : {M : Type 1} → statement M
+define-all-spec =
+    tie.close
+    (tie.spec
+    Inv-loop
+    μ-loop
+    loop-holds
+    mul-define
+    shared-slice-read-define
+    define-requires
+    add-place
+    sub-left
+    loop-less
+    loop-again
+    returns)

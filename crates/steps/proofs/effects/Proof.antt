@@ -1,0 +1,72 @@
+use mathlib.Core.List.{[], _∷_}
+use mathlib.Core.Bool.{Bool}
+use mathlib.Core.Path.{_≡_, refl, _∙_}
+use Prim.Native.Nat.{_+_, _≤_}
+use native.Mathlib.Omega.{arith}
+use borrow.Author.Needs.{needs}
+use Rattle.paper.specs.Text.{Name}
+use Rattle.cells.specs.States.{state-of}
+use Rattle.steps.specs.Actions.{steps-at, HonestSteps}
+use Rattle.steps.proofs.EffectLaws.{no-step, next-step}
+use Rattle.steps.proofs.effects.Statement.{statement}
+use Rattle.paper.specs.Steps as paper
+use Rattle.steps.proofs.effects.Tie as tie
+
+abbrev Inv-loop : tie.InvT-loop
+Inv-loop words rule regs slots first count t₀ k₀ left₀ t k left =
+    (k + left ≡ first + count) × (first ≤ k)
+    × ((ref : Name → Bool) → HonestSteps ref words first count
+    → paper.effects rule ref (steps-at words k left) (state-of (regs ∷ slots ∷ []) t) ≡ paper.effects rule ref (steps-at words first count) (state-of (regs ∷ slots ∷ []) t₀))
+
+abbrev μ-loop : tie.MeasureT-loop
+μ-loop words rule regs slots first count t₀ k₀ left₀ t k left = left
+
+loop-holds : tie.Need-loop-holds Inv-loop μ-loop
+loop-holds c = (refl, search needs, λ ref h. refl)
+
+action-at-requires : tie.Need-action-at-requires Inv-loop μ-loop
+action-at-requires c κs = let p = c .before .before .before .pre in (omega arith, p .words-fit)
+
+update-requires : tie.Need-update-requires Inv-loop μ-loop
+update-requires c κs =
+    let l = c .before .before in
+    let p = l .before .before .pre in
+    (p .regs-fit, p .slots-fit, rw (c .action-at .ensures) (p .in-range _ (l .loop .inv .1) (omega arith)))
+
+add-k : tie.Need-add-k Inv-loop μ-loop
+add-k c = search needs
+
+sub-left : tie.Need-sub-left Inv-loop μ-loop
+sub-left c = search needs
+
+loop-less : tie.Need-loop-less Inv-loop μ-loop
+loop-less c = search needs
+
+loop-again : tie.Need-loop-again Inv-loop μ-loop
+loop-again c =
+    let l = c .before .before .before in (
+      omega arith,
+      omega arith,
+      λ ref h.
+          rw (c .update .ensures ref (rw (c .before .action-at .ensures) (h _ (l .loop .inv .1) (omega arith))), c .before .action-at .ensures)
+          (next-step _ ref _ _ _ _ (c .before .before .loop-test .taken))
+          ∙ l .loop .inv .2 ref h,
+    )
+
+returns : tie.Need-returns Inv-loop μ-loop
+returns c = λ ref h. no-step _ ref _ _ _ _ (c .loop-test .left) ∙ c .before .loop .inv .2 ref h
+
+pub effects-spec : {M : Type 1} → statement M
+effects-spec =
+    tie.close
+    (tie.spec
+    Inv-loop
+    μ-loop
+    loop-holds
+    action-at-requires
+    update-requires
+    add-k
+    sub-left
+    loop-less
+    loop-again
+    returns)

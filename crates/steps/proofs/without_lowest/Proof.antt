@@ -1,0 +1,13 @@
+use borrow.Author.Needs.{needs}
+use Rattle.lists.specs.Bits.{cleared}
+use Rattle.steps.proofs.without_lowest.Statement.{statement}
+use Rattle.steps.proofs.without_lowest.Tie as tie
+
+sub-result : tie.Need-sub-result
+sub-result c = search needs
+
+returns : tie.Need-returns
+returns c = cleared 32 _ (c .pre) (c .fits .mask .fits)
+
+pub without-lowest-spec : {M : Type 1} → statement M
+without-lowest-spec = tie.close (tie.spec sub-result returns)

@@ -1,0 +1,534 @@
+// A step as a small enum, its packing in the lent words, its check and its effect under either rule.
+ghost use mathlib.Core.Path.{_≡_};
+ghost use mathlib.Core.Bool.{Bool};
+ghost use mathlib.Core.List.{List, [], _∷_};
+ghost use Prim.Native.Nat.{ℕ, _+_, _-_, _*_, _/_, _^_, _≤_, _<_};
+ghost use lib.Count.{trailingZeros};
+ghost use lib.ListN.{length, getD};
+ghost use Rattle.lists.specs.Kept.{Kept};
+ghost use Rattle.lists.specs.Region.{region};
+ghost use Rattle.lists.specs.Bits.{set-bits};
+ghost use Rattle.paper.specs.Text.{Name};
+ghost use Rattle.paper.specs.Sheet as sheet;
+ghost use Rattle.paper.specs.Steps as paper;
+ghost use Rattle.paper.specs.Report.{unallocated, missing-names, inst-of};
+ghost use Rattle.cells.specs.Packed.{name-of-word, marked};
+ghost use Rattle.cells.specs.States.{state-of};
+ghost use Rattle.steps.specs.Layout.{most-steps, step-base, step-words, all-words};
+ghost use Rattle.steps.specs.Actions.{register-of, operand-of, operands, step-of, action-at, steps-at, InRange, Honest, packed, Packs, RoomFor, Runnable, HonestSteps};
+ghost use Rattle.steps.specs.Faults.{fault-of, some-in};
+ghost use Rattle.steps.specs.Checks.{is-error, use-error, change-error, slot-error, first-error, use-in, slot-in};
+ghost use Rattle.steps.specs.Defs.{define-word, define-words};
+use cells::State;
+use paper::Rule;
+
+pub const MOST_BLOCKS: usize = 64;
+
+pub const MOST_STEPS: usize = 1024;
+
+pub const HEADER_WORDS: usize = 16;
+
+pub const TYPED_BASE: usize = HEADER_WORDS;
+
+pub const TYPED_WORDS: usize = 256;
+
+pub const BLOCK_BASE: usize = TYPED_BASE + TYPED_WORDS;
+
+pub const BLOCK_WORDS: usize = 12;
+
+pub const STEP_BASE: usize = BLOCK_BASE + MOST_BLOCKS * BLOCK_WORDS;
+
+pub const STEP_WORDS: usize = 4;
+
+pub const OPERAND_BASE: usize = STEP_BASE + MOST_STEPS * STEP_WORDS;
+
+pub const OPERAND_WORDS: usize = 16;
+
+pub const DEFS_FROM: usize = 8;
+
+pub const STATE_BASE: usize = OPERAND_BASE + MOST_STEPS * OPERAND_WORDS;
+
+pub const STATE_WORDS: usize = 64;
+
+pub const ALL_WORDS: usize = STATE_BASE + MOST_BLOCKS * STATE_WORDS;
+
+pub const NO_REGISTER: u16 = 63;
+
+// A step. An operation's uses stand in the lent words from `at` on, its defs from `at + 8` on.
+pub enum Action {
+    Spill {
+        slot: usize,
+        reg: usize,
+    },
+    Reload {
+        reg: usize,
+        slot: usize,
+    },
+    Move {
+        into: usize,
+        from: usize,
+    },
+    Change {
+        inst: u16,
+        slot: usize,
+        from: u16,
+        to: u16,
+    },
+    Operation {
+        inst: u16,
+        at: usize,
+        uses: usize,
+        defs: usize,
+    },
+    Safepoint {
+        inst: u16,
+        mask: u32,
+    },
+}
+
+// What a check finds.
+pub enum CheckerError {
+    Nothing,
+    UnknownValueInReg {
+        reg: usize,
+    },
+    IncorrectValueInReg {
+        reg: usize,
+        expected: u16,
+        actual: u16,
+    },
+    UnknownValueInSlot {
+        slot: usize,
+        expected: u16,
+    },
+    IncorrectValueInSlot {
+        slot: usize,
+        expected: u16,
+        actual: u16,
+    },
+    StackMapSpecifiesNonRefSlot {
+        slot: usize,
+    },
+    StackMapSpecifiesUndefinedSlot {
+        slot: usize,
+    },
+}
+
+// An operand as the lent words hold it: a name, a register or NO_REGISTER, and whether `T` lists the name.
+pub fn operand(name: u16, reg: u16, mark: bool) -> u16
+    requires { ⌜ (name < 512) × (reg < 64) ⌝ }
+    ensures { λ r. ⌜ (operand-of r ≡ record { name = name-of-word name; reg = register-of reg }) × (marked r ≡ mark) × (r / 1024 ≡ reg) ⌝ }
+{
+    if mark {
+        reg * 1024 + 512 + name
+    } else {
+        reg * 1024 + name
+    }
+}
+
+// A mask from its two halves.
+fn mask_of(low: u16, high: u16) -> u32
+    ensures { λ r. ⌜ r ≡ low + high * 65536 ⌝ }
+{
+    low as u32 + high as u32 * 65536
+}
+
+// The k-th step of the sheet.
+pub fn action_at(words: &[u16], k: usize) -> Action
+    requires { ⌜ (k < most-steps) × (all-words ≤ length (now words)) ⌝ }
+    ensures { λ r. ⌜ r ≡ action-at (now (words .entry)) k ⌝ }
+{
+    let at = STEP_BASE + k * STEP_WORDS;
+    let w = words[at];
+    let inst = words[at + 1];
+    let x = words[at + 2];
+    let y = words[at + 3];
+    let tag = w % 8;
+    let a = (w / 8 % 64) as usize;
+    let b = (w / 512 % 64) as usize;
+    match tag {
+        0 => Action::Spill { slot: a, reg: b },
+        1 => Action::Reload { reg: a, slot: b },
+        2 => Action::Move { into: a, from: b },
+        3 => Action::Change {
+            inst: inst,
+            slot: a,
+            from: x,
+            to: y,
+        },
+        4 => Action::Operation {
+            inst: inst,
+            at: OPERAND_BASE + k * OPERAND_WORDS,
+            uses: a,
+            defs: b,
+        },
+        _ => Action::Safepoint {
+            inst: inst,
+            mask: mask_of(x, y),
+        },
+    }
+}
+
+fn head(tag: usize, a: usize, b: usize) -> u16
+    requires { ⌜ (tag < 8) × (a < 64) × (b < 64) ⌝ }
+    ensures { λ r. ⌜ r ≡ tag + a * 8 + b * 512 ⌝ }
+{
+    (tag + a * 8 + b * 512) as u16
+}
+
+// The four words of a step.
+fn packed(action: Action) -> [u16; 4]
+    requires { ⌜ ((k : ℕ) × Packs k action) ⌝ }
+    ensures { λ r. ⌜ r ≡ packed action ⌝ }
+{
+    match action {
+        Action::Spill { slot, reg } => [head(0, slot, reg), 0, 0, 0],
+        Action::Reload { reg, slot } => [head(1, reg, slot), 0, 0, 0],
+        Action::Move { into, from } => [head(2, into, from), 0, 0, 0],
+        Action::Change {
+            inst,
+            slot,
+            from,
+            to,
+        } => [head(3, slot, 0), inst, from, to],
+        Action::Operation {
+            inst,
+            at: _,
+            uses,
+            defs,
+        } => [head(4, uses, defs), inst, 0, 0],
+        Action::Safepoint { inst, mask } => [
+            head(5, 0, 0),
+            inst,
+            (mask % 65536) as u16,
+            (mask / 65536) as u16,
+        ],
+    }
+}
+
+// The k-th step of the sheet is written.
+pub fn put_action(words: &mut [u16], k: usize, action: Action)
+    requires { ⌜ (k < most-steps) × (all-words ≤ length (now words)) × Packs k action ⌝ }
+    ensures { λ r. ⌜ (action-at (now (words .exit)) k ≡ action) × Kept (step-base + k * step-words) step-words (now (words .entry)) (now (words .exit)) ⌝ }
+{
+    let p = packed(action);
+    let at = STEP_BASE + k * STEP_WORDS;
+    let mut i = 0;
+    while i < 4 {
+        words[at + i] = p[i];
+        i += 1;
+    }
+}
+
+// The inst of a step that can have a fault.
+pub fn inst_of(action: Action) -> u16
+    ensures { λ r. ⌜ ((words : List ℕ) → r ≡ inst-of (step-of words action)) ⌝ }
+{
+    match action {
+        Action::Spill { slot: _, reg: _ } => 0,
+        Action::Reload { reg: _, slot: _ } => 0,
+        Action::Move { into: _, from: _ } => 0,
+        Action::Change {
+            inst,
+            slot: _,
+            from: _,
+            to: _,
+        } => inst,
+        Action::Operation {
+            inst,
+            at: _,
+            uses: _,
+            defs: _,
+        } => inst,
+        Action::Safepoint { inst, mask: _ } => inst,
+    }
+}
+
+// Does one of n operands from `at` on have no allocation?
+pub fn missing_among(words: &[u16], at: usize, n: usize) -> bool
+    requires { ⌜ at + n ≤ length (now words) ⌝ }
+    ensures { λ r. ⌜ r ≡ some-in (unallocated (operands at n (now (words .entry)))) ⌝ }
+{
+    let mut place = at;
+    let mut left = n;
+    while 0 < left {
+        if words[place] / 1024 == NO_REGISTER {
+            return true;
+        }
+        place += 1;
+        left -= 1;
+    }
+    false
+}
+
+// Does a step have an operand with no allocation?
+pub fn missing(words: &[u16], action: Action) -> bool
+    requires { ⌜ RoomFor action (now words) ⌝ }
+    ensures { λ r. ⌜ r ≡ some-in (missing-names (step-of (now (words .entry)) action)) ⌝ }
+{
+    let Action::Operation {
+        inst: _,
+        at,
+        uses,
+        defs,
+    } = action
+    else {
+        return false;
+    };
+    if missing_among(words, at, uses) {
+        return true;
+    }
+    missing_among(words, at + DEFS_FROM, defs)
+}
+
+fn check_use(u: u16, w: u16) -> CheckerError
+    ensures { λ r. ⌜ r ≡ use-error u w ⌝ }
+{
+    let reg = (u / 1024) as usize;
+    if w / 1024 % 4 != 3 {
+        return CheckerError::UnknownValueInReg { reg: reg };
+    }
+    if w % 512 == u % 512 {
+        CheckerError::Nothing
+    } else {
+        CheckerError::IncorrectValueInReg {
+            reg: reg,
+            expected: u % 512,
+            actual: w % 512,
+        }
+    }
+}
+
+fn check_change(slot: usize, from: u16, w: u16) -> CheckerError
+    ensures { λ r. ⌜ r ≡ change-error slot from w ⌝ }
+{
+    if w / 1024 % 4 != 3 {
+        return CheckerError::UnknownValueInSlot {
+            slot: slot,
+            expected: from % 512,
+        };
+    }
+    if w % 512 == from % 512 {
+        CheckerError::Nothing
+    } else {
+        CheckerError::IncorrectValueInSlot {
+            slot: slot,
+            expected: from % 512,
+            actual: w % 512,
+        }
+    }
+}
+
+fn check_slot(slot: usize, w: u16) -> CheckerError
+    ensures { λ r. ⌜ r ≡ slot-error slot w ⌝ }
+{
+    if w / 1024 % 4 != 3 {
+        return CheckerError::StackMapSpecifiesUndefinedSlot { slot: slot };
+    }
+    if w / 512 % 2 == 1 {
+        CheckerError::Nothing
+    } else {
+        CheckerError::StackMapSpecifiesNonRefSlot { slot: slot }
+    }
+}
+
+// Is there something to report?
+fn is_error(error: CheckerError) -> bool
+    ensures { λ r. ⌜ r ≡ is-error error ⌝ }
+{
+    if let CheckerError::Nothing = error {
+        false
+    } else {
+        true
+    }
+}
+
+// The uses in order: the first that fails.
+fn check_uses(words: &[u16], at: usize, n: usize, row: &[u16; 32]) -> CheckerError
+    requires { ⌜ (at + n ≤ length (now words)) × ((i : ℕ) → i < n → getD (now words) (at + i) 0 / 1024 < 32) ⌝ }
+    ensures { λ r. ⌜ r ≡ first-error (use-in (now (row .entry))) (region at n (now (words .entry))) ⌝ }
+{
+    let mut place = at;
+    let mut left = n;
+    let found = 'search: loop {
+        if left == 0 {
+            break 'search CheckerError::Nothing;
+        }
+        let u = words[place];
+        let reg = (u / 1024) as usize;
+        let error = check_use(u, row[reg]);
+        if is_error(error) {
+            break 'search error;
+        }
+        place += 1;
+        left -= 1;
+    };
+    found
+}
+
+// The mask without its lowest set bit.
+fn without_lowest(mask: u32) -> u32
+    requires { ⌜ 0 < mask ⌝ }
+    ensures { λ r. ⌜ r ≡ mask - 2 ^ trailingZeros 32 mask ⌝ }
+{
+    mask & (mask - 1)
+}
+
+// The listed slots, lowest first: the first that fails.
+fn check_stackmap(row: &[u16; 32], mask: u32) -> CheckerError
+    ensures { λ r. ⌜ r ≡ first-error (slot-in (now (row .entry))) (set-bits mask) ⌝ }
+{
+    let mut left = mask;
+    let found = 'search: loop {
+        if left == 0 {
+            break 'search CheckerError::Nothing;
+        }
+        let slot = u32::trailing_zeros(left) as usize;
+        let error = check_slot(slot, row[slot]);
+        if is_error(error) {
+            break 'search error;
+        }
+        left = without_lowest(left);
+    };
+    found
+}
+
+// What is wrong with a step in a state.
+pub fn check(words: &[u16], s: State, action: Action) -> CheckerError
+    requires { ⌜ InRange 32 32 (now words) action ⌝ }
+    ensures { λ r. ⌜ ((regs slots : ℕ) → InRange regs slots (now (words .entry)) action → fault-of r ≡ paper.check (step-of (now (words .entry)) action) (state-of (regs ∷ slots ∷ []) s)) ⌝ }
+{
+    match action {
+        Action::Change {
+            inst: _,
+            slot,
+            from,
+            to: _,
+        } => check_change(slot, from, s[1][slot]),
+        Action::Operation {
+            inst: _,
+            at,
+            uses,
+            defs: _,
+        } => check_uses(words, at, uses, &s[0]),
+        Action::Safepoint { inst: _, mask } => check_stackmap(&s[1], mask),
+        _ => CheckerError::Nothing,
+    }
+}
+
+// A def: its register gets its name, which under the house rule stands nowhere else.
+fn define(rule: Rule, s: State, regs: usize, slots: usize, operand: u16) -> State
+    requires { ⌜ (regs ≤ 32) × (slots ≤ 32) × (operand / 1024 < regs) ⌝ }
+    ensures { λ r. ⌜ state-of (regs ∷ slots ∷ []) r ≡ define-word rule operand (state-of (regs ∷ slots ∷ []) s) ⌝ }
+{
+    let mut t = match rule {
+        Rule::Old => s,
+        Rule::House => cells::overwrite(s, regs, slots, operand),
+    };
+    let reg = (operand / 1024) as usize;
+    t[0][reg] = 3072 + operand % 1024;
+    t
+}
+
+// The defs in order.
+fn define_all(
+    words: &[u16],
+    at: usize,
+    n: usize,
+    rule: Rule,
+    s: State,
+    regs: usize,
+    slots: usize,
+) -> State
+    requires { ⌜ (at + n ≤ length (now words)) × (regs ≤ 32) × (slots ≤ 32) × ((i : ℕ) → i < n → getD (now words) (at + i) 0 / 1024 < regs) ⌝ }
+    ensures { λ r. ⌜ state-of (regs ∷ slots ∷ []) r ≡ define-words rule (region at n (now (words .entry))) (state-of (regs ∷ slots ∷ []) s) ⌝ }
+{
+    let mut t = s;
+    let mut place = at;
+    let mut left = n;
+    while 0 < left {
+        let u = define(rule, t, regs, slots, words[place]);
+        t = u;
+        place += 1;
+        left -= 1;
+    }
+    t
+}
+
+// An ownership change.
+fn change(rule: Rule, s: State, regs: usize, slots: usize, slot: usize, from: u16, to: u16) -> State
+    requires { ⌜ (regs ≤ 32) × (slots ≤ 32) × (slot < slots) ⌝ }
+    ensures { λ r. ⌜ ((ref : Name → Bool) (inst : ℕ) → state-of (regs ∷ slots ∷ []) r ≡ paper.effect rule ref (sheet.change inst slot (name-of-word from) (name-of-word to)) (state-of (regs ∷ slots ∷ []) s)) ⌝ }
+{
+    match rule {
+        Rule::Old => {
+            let mut t = s;
+            t[1][slot] = cells::old_changed(to, s[1][slot]);
+            t
+        }
+        Rule::House => {
+            let w = cells::house_changed(from, to, s[1][slot]);
+            let mut t = cells::overwrite(s, regs, slots, to);
+            t[1][slot] = w;
+            t
+        }
+    }
+}
+
+// A step takes effect.
+pub fn update(
+    words: &[u16],
+    rule: Rule,
+    s: State,
+    regs: usize,
+    slots: usize,
+    action: Action,
+) -> State
+    requires { ⌜ (regs ≤ 32) × (slots ≤ 32) × InRange regs slots (now words) action ⌝ }
+    ensures { λ r. ⌜ ((ref : Name → Bool) → Honest ref (now (words .entry)) action → state-of (regs ∷ slots ∷ []) r ≡ paper.effect rule ref (step-of (now (words .entry)) action) (state-of (regs ∷ slots ∷ []) s)) ⌝ }
+{
+    match action {
+        Action::Spill { slot, reg } => cells::copy(s, 1, slot, 0, reg),
+        Action::Reload { reg, slot } => cells::copy(s, 0, reg, 1, slot),
+        Action::Move { into, from } => cells::copy(s, 0, into, 0, from),
+        Action::Change {
+            inst: _,
+            slot,
+            from,
+            to,
+        } => change(rule, s, regs, slots, slot, from, to),
+        Action::Operation {
+            inst: _,
+            at,
+            uses: _,
+            defs,
+        } => define_all(words, at + DEFS_FROM, defs, rule, s, regs, slots),
+        Action::Safepoint { inst: _, mask } => cells::update_stackmap(rule, s, regs, slots, mask),
+    }
+}
+
+// The steps of a block, one after the other.
+pub fn effects(
+    words: &[u16],
+    rule: Rule,
+    s: State,
+    regs: usize,
+    slots: usize,
+    first: usize,
+    count: usize,
+) -> State
+    requires { ⌜ Runnable regs slots (now words) first count ⌝ }
+    ensures { λ r. ⌜ ((ref : Name → Bool) → HonestSteps ref (now (words .entry)) first count → state-of (regs ∷ slots ∷ []) r ≡ paper.effects rule ref (steps-at (now (words .entry)) first count) (state-of (regs ∷ slots ∷ []) s)) ⌝ }
+{
+    let mut t = s;
+    let mut k = first;
+    let mut left = count;
+    while 0 < left {
+        let action = action_at(words, k);
+        let u = update(words, rule, t, regs, slots, action);
+        t = u;
+        k += 1;
+        left -= 1;
+    }
+    t
+}
