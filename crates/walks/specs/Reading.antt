@@ -1,20 +1,20 @@
 -- What a sheet that is read is known to obey, from the refusals that were not made: 5 gives an entry and successors below the
--- number of blocks, 8 gives changes of ownership between names of one type; 4 keeps `T` before `B`, so that no later `T` changes
--- a name's type. The reader adds a record at a time, and each keeps it so.
+-- number of blocks, 8 gives changes of ownership between names of one type, 9 gives at most 1,024 steps; 4 keeps `T` before `B`,
+-- so that no later `T` changes a name's type. The reader adds a record at a time, and each keeps it so.
 use mathlib.Core.Path.{_≡_, refl, sym, _∙_, ap, subst}
 use mathlib.Core.Logic.{_⊎_, inl, inr, ⊎-map}
 use mathlib.Core.Bool.{Bool, true, false, cond, not, _||_, Bool·beq}
 use mathlib.Core.List.{List, [], _∷_, _++_}
 use mathlib.Core.Option.{Option, none, some}
-use Prim.Native.Nat.{ℕ, suc, zero, _<_}
+use Prim.Native.Nat.{ℕ, suc, zero, _+_, _≤_, _<_}
 use native.Mathlib.Omega.{arith}
 use lib.Dec.{eqb, leb, ltb}
-use lib.ListN.{length, getD}
+use lib.ListN.{length, getD, length-append}
 use borrow.Author.Tests.{leb-false, not-false}
 use Rattle.paper.specs.Text.{Bytes, lines, fields, Name, real, virtual}
 use Rattle.paper.specs.Sheet.{Step, change, Block, Sheet, no-block, listed, reference-typed}
-use Rattle.paper.specs.Limits.{max-regs, max-slots, max-vregs, max-blocks}
-use Rattle.paper.specs.Refusals.{Record, function-record, typed-record, block-record, step-record, record-of, any, empty, out-of-place, beyond-limit, types-differ, so-far-of, Condition, first-holding, conditions, add-step, add-record, Reading, loaded, refused, Lined, good, bad, judged, read-record, read-line, read-end, carry-on, read-lines, no-text, read}
+use Rattle.paper.specs.Limits.{max-regs, max-slots, max-vregs, max-blocks, max-steps}
+use Rattle.paper.specs.Refusals.{Record, function-record, typed-record, block-record, step-record, record-of, any, empty, out-of-place, beyond-limit, types-differ, step-count, step-too-many, so-far-of, Condition, first-holding, conditions, add-step, add-record, Reading, loaded, refused, Lined, good, bad, judged, read-record, read-line, read-end, carry-on, read-lines, no-text, read}
 use Rattle.paper.specs.Report.{Line, faults, report-text}
 use Rattle.paper.specs.Answer.{accepted, said-of, said-after, answer}
 use Rattle.paper.specs.Walks.{In, here, there}
@@ -28,6 +28,7 @@ record Sound (S : Sheet) : Type 0 where
   entry-in : S .entry < S .blocks
   succs-in : (B : Block) → In B (S .body) → (s : ℕ) → In s (B .succs) → s < S .blocks
   changes : (B : Block) → In B (S .body) → (inst k : ℕ) (from to : Name) → In (change inst k from to) (B .steps) → reference-typed S from ≡ reference-typed S to
+  few : step-count (S .body) ≤ max-steps
 
 SoundSoFar : Option Sheet → Type 0
 SoundSoFar none = Unit {0}
@@ -84,11 +85,24 @@ add-step-in x (D ∷ []) B (there i) P p q = absurd (in-nil i)
 add-step-in x (D ∷ E ∷ body) B (here e) P p q = p B (here e)
 add-step-in x (D ∷ E ∷ body) B (there i) P p q = add-step-in x (E ∷ body) B i P (λ G j. p G (there j)) (λ G j. q G (there j))
 
--- the three conditions that count here
+-- an empty block has no step, and one step more is at most one step more
+count-append : (body : List Block) (succs : List ℕ) → step-count (body ++ (record { succs = succs; steps = [] } ∷ [])) ≡ step-count body
+unfolding step-count
+count-append [] succs = refl
+count-append (B ∷ body) succs = ap (λ (n : ℕ). length (B .steps) + n) (count-append body succs)
+
+count-add : (x : Step) (body : List Block) → step-count (add-step x body) ≤ suc (step-count body)
+unfolding step-count add-step
+count-add x [] = omega arith
+count-add x (B ∷ []) = rw length-append (omega arith)
+count-add x (B ∷ C ∷ body) = omega (arith, count-add x (C ∷ body))
+
+-- the four conditions that count here
 record Unrefused (so-far : Option Sheet) (r : Record) : Type 0 where
   in-place : out-of-place so-far r ≡ false
   in-limits : beyond-limit (so-far-of so-far) r ≡ false
   same-types : types-differ (so-far-of so-far) r ≡ false
+  steps-left : step-too-many (so-far-of so-far) r ≡ false
 
 unrefused : (so-far : Option Sheet) (r : Record) → first-holding (conditions so-far r) ≡ none → Unrefused so-far r
 unfolding conditions
@@ -98,27 +112,28 @@ unrefused so-far r e =
     let six = not-holding _ _ (five .1) in
     let seven = not-holding _ _ (six .1) in
     let eight = not-holding _ _ (seven .1) in
-    record { in-place = four .0; in-limits = five .0; same-types = eight .0 }
+    let nine = not-holding _ _ (eight .1) in
+    record { in-place = four .0; in-limits = five .0; same-types = eight .0; steps-left = nine .0 }
 
 step-typed : (S : Sheet) (x : Step) → types-differ S (step-record x) ≡ false → (inst k : ℕ) (from to : Name) → change inst k from to ≡ x → reference-typed S from ≡ reference-typed S to
 unfolding types-differ
 step-typed S x e inst k from to p = same-bool (reference-typed S from) (reference-typed S to) (subst (λ (y : Step). types-differ S (step-record y) ≡ false) (sym p) e)
 
 add-sound : (so-far : Option Sheet) (r : Record) → SoundSoFar so-far → Unrefused so-far r → Sound (add-record (so-far-of so-far) r)
-unfolding SoundSoFar add-record out-of-place beyond-limit
+unfolding SoundSoFar add-record out-of-place beyond-limit step-too-many step-count
 add-sound none (function-record regs slots vregs blocks entry) g u =
     let vregs-in = or-false (ltb max-slots slots) _ (or-false (ltb max-regs regs) _ (u .in-limits) .1) .1 in
     let blocks-in = or-false (ltb max-blocks blocks) _ (or-false (ltb max-vregs vregs) _ vregs-in .1) .1 in
     let entry-below = or-false (eqb blocks 0) (leb blocks entry) blocks-in .1 in
-    record { entry-in = leb-false blocks entry entry-below; succs-in = λ B i. absurd (in-nil i); changes = λ B i. absurd (in-nil i) }
+    record { entry-in = leb-false blocks entry entry-below; succs-in = λ B i. absurd (in-nil i); changes = λ B i. absurd (in-nil i); few = omega arith }
 add-sound none (typed-record n) g u = true-false (u .in-place)
 add-sound none (block-record succs) g u = true-false (u .in-place)
 add-sound none (step-record x) g u = true-false (u .in-place)
 add-sound (some S) (function-record regs slots vregs blocks entry) g u = true-false (u .in-place)
 add-sound (some S) (typed-record n) g u =
     let e : S .body ≡ [] = is-empty (S .body) (not-false (empty (S .body)) (u .in-place)) in
-    record { entry-in = g .entry-in; succs-in = g .succs-in; changes = λ B i. absurd (in-nil (subst (In B) e i)) }
-add-sound (some S) (block-record succs) g u = record { entry-in = g .entry-in; succs-in = λ B i. inside B (in-append (S .body) _ i); changes = λ B i. typed B (in-append (S .body) _ i) }
+    record { entry-in = g .entry-in; succs-in = g .succs-in; changes = λ B i. absurd (in-nil (subst (In B) e i)); few = g .few }
+add-sound (some S) (block-record succs) g u = record { entry-in = g .entry-in; succs-in = λ B i. inside B (in-append (S .body) _ i); changes = λ B i. typed B (in-append (S .body) _ i); few = rw (count-append (S .body) succs) (g .few) }
   where
     inside : (B : Block) → In B (S .body) ⊎ In B (record { succs = succs; steps = [] } ∷ []) → (s : ℕ) → In s (B .succs) → s < S .blocks
     inside B (inl i) s j = g .succs-in B i s j
@@ -130,7 +145,9 @@ add-sound (some S) (block-record succs) g u = record { entry-in = g .entry-in; s
     typed B (inl i) inst k from to j = same-types-as S (add-record S (block-record succs)) refl from to (g .changes B i inst k from to j)
     typed B (inr (here e)) inst k from to j = absurd (in-nil (subst (λ (D : Block). In (change inst k from to) (D .steps)) e j))
     typed B (inr (there i)) inst k from to j = absurd (in-nil i)
-add-sound (some S) (step-record x) g u = record { entry-in = g .entry-in; succs-in = inside; changes = typed }
+add-sound (some S) (step-record x) g u =
+    let left : step-count (S .body) < max-steps = leb-false max-steps (step-count (S .body)) (u .steps-left) in
+    record { entry-in = g .entry-in; succs-in = inside; changes = typed; few = omega (arith, count-add x (S .body)) }
   where
     inside : (B : Block) → In B (add-step x (S .body)) → (s : ℕ) → In s (B .succs) → s < S .blocks
     inside B i = add-step-in x (S .body) B i (λ D. (s : ℕ) → In s (D .succs) → s < S .blocks) (g .succs-in) (g .succs-in)
@@ -207,6 +224,9 @@ read-closed bytes S e = record { entry-in = read-sound bytes S e .entry-in; succ
     go : (s : ℕ) {B : Block} → In B (S .body) ⊎ (B ≡ no-block) → In s (B .succs) → s < S .blocks
     go s {B} (inl j) i = read-sound bytes S e .succs-in B j s i
     go s {B} (inr p) i = absurd (in-nil (subst (λ (D : Block). In s (D .succs)) p i))
+
+pub read-few : (bytes : Bytes) (S : Sheet) → read bytes ≡ loaded S → step-count (S .body) ≤ max-steps
+read-few bytes S e = read-sound bytes S e .few
 
 pub read-typed : (bytes : Bytes) (S : Sheet) → read bytes ≡ loaded S → Typed S
 read-typed bytes S e = record { changes = λ b inst k from to i. go inst k from to (block-at (S .body) b) i }

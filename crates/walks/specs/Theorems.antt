@@ -15,7 +15,8 @@ use Rattle.paper.specs.Cells.{Cell, meet}
 use Rattle.paper.specs.Steps.{State, effect, effects}
 use Rattle.paper.specs.Runs.{Run, meet-states, flow, begin, spread, step, run, visit-bound, analysis, entered, checked-from}
 use Rattle.paper.specs.Report.{Line, find-errors, faults, report-text}
-use Rattle.paper.specs.Refusals.{loaded, read}
+use Rattle.paper.specs.Limits.{max-steps}
+use Rattle.paper.specs.Refusals.{step-count, loaded, read}
 use Rattle.paper.specs.Answer.{accepted, answer}
 use Rattle.paper.specs.Walks.{In, MeetOverWalks, HouseWalk, Acceptance}
 use Rattle.paper.specs.Programs.{EqualReads}
@@ -170,6 +171,10 @@ read-closed = Reading.read-closed
 
 pub read-typed : (bytes : Bytes) (S : Sheet) → read bytes ≡ loaded S → Typed S
 read-typed = Reading.read-typed
+
+-- The buffers' sizes rest on refusal 9: a sheet that is read has at most 1,024 steps.
+pub read-few : (bytes : Bytes) (S : Sheet) → read bytes ≡ loaded S → step-count (S .body) ≤ max-steps
+read-few = Reading.read-few
 
 -- what is known of bytes that are accepted under the house rule
 pub record AcceptedBytes (bytes : Bytes) : Type 1 where
