@@ -245,6 +245,10 @@ module _ (w : ℕ) where
       go (suc (suc zero)) d = refl
       go (suc (suc (suc k))) d = refl
 
+  -- the name to, with the mark of w
+  pub renamed : (to : ℕ) → cell-of (3072 + w / 512 % 2 * 512 + to % 512) ≡ named (name-of-word to) (marked w)
+  renamed to = made (3072 + w / 512 % 2 * 512 + to % 512) to w (omega arith) (omega arith) (omega arith)
+
   module _ (d : w / 1024 % 4 ≡ 3 → ⊥) where
     pub overwritten-unnamed : (n : Name) → cell-of w ≡ paper.overwritten n (cell-of w)
     unfolding paper.overwritten
@@ -273,18 +277,14 @@ module _ (w : ℕ) where
     unfolding paper.overwritten
     overwritten-other n e = rw (is-named w k) (sym (pick-other w n _ _ e))
 
-    -- the name to, with the mark of w
-    renamed : (to : ℕ) → cell-of (3072 + w / 512 % 2 * 512 + to % 512) ≡ named (name-of-word to) (marked w)
-    renamed to = made (3072 + w / 512 % 2 * 512 + to % 512) to w (omega arith) (omega arith) (omega arith)
+    pub old-changed-named : (to v : ℕ) → cell-of v ≡ named (name-of-word to) (marked w) → cell-of v ≡ paper.old-changed (name-of-word to) (cell-of w)
+    unfolding paper.old-changed
+    old-changed-named to v e = rw (is-named w k) e
 
-    pub old-changed-named : (to : ℕ) → cell-of (3072 + w / 512 % 2 * 512 + to % 512) ≡ paper.old-changed (name-of-word to) (cell-of w)
-    unfolding paper.old-changed marked
-    old-changed-named to = rw (is-named w k) (renamed to)
-
-    pub house-changed-same : (from to : ℕ) → w % 512 ≡ from % 512
-        → cell-of (3072 + w / 512 % 2 * 512 + to % 512) ≡ paper.house-changed (name-of-word from) (name-of-word to) (cell-of w)
+    pub house-changed-same : (from to v : ℕ) → cell-of v ≡ named (name-of-word to) (marked w) → w % 512 ≡ from % 512
+        → cell-of v ≡ paper.house-changed (name-of-word from) (name-of-word to) (cell-of w)
     unfolding paper.house-changed
-    house-changed-same from to e = rw (is-named w k) (renamed to ∙ sym (pick-name w from _ _ e))
+    house-changed-same from to v ev e = rw (is-named w k) (ev ∙ sym (pick-name w from _ _ e))
 
     pub house-changed-other : (from to : ℕ) → (w % 512 ≡ from % 512 → ⊥) → cell-of 2048 ≡ paper.house-changed (name-of-word from) (name-of-word to) (cell-of w)
     unfolding paper.house-changed

@@ -18,15 +18,14 @@ use paper::Rule;
 
 pub type State = [[u16; 32]; 2];
 
-pub type Table = [[[u8; 4]; 4]; 2];
-
 // Which side wins the meet, by rule, left kind and right kind: 0 the left, 1 the right, 2 both are names.
 pub const MEET: [[[u8; 4]; 4]; 2] = [
     [[0, 1, 1, 1], [0, 0, 1, 1], [0, 0, 0, 0], [0, 0, 1, 2]],
     [[0, 0, 0, 0], [1, 0, 0, 0], [1, 1, 0, 0], [1, 1, 1, 2]],
 ];
 
-pub fn rule_index(rule: Rule) -> usize
+// The table's index of a rule.
+fn rule_index(rule: Rule) -> usize
     ensures { λ r. ⌜ r ≡ rule-index rule ⌝ }
 {
     match rule {
@@ -35,6 +34,14 @@ pub fn rule_index(rule: Rule) -> usize
     }
 }
 
+// The table, to be lent.
+pub fn meet_table() -> [[[u8; 4]; 4]; 2]
+    ensures { λ r. ⌜ r ≡ meet-table ⌝ }
+{
+    MEET
+}
+
+// The meet of two cells, by the table that is lent.
 pub fn meet(table: &[[[u8; 4]; 4]; 2], rule: Rule, a: u16, b: u16) -> u16
     requires { ⌜ now table ≡ meet-table ⌝ }
     ensures { λ r. ⌜ (r ≡ meet-word rule a b) × (cell-of r ≡ paper.meet rule (cell-of a) (cell-of b)) ⌝ }
@@ -58,13 +65,15 @@ pub fn meet(table: &[[[u8; 4]; 4]; 2], rule: Rule, a: u16, b: u16) -> u16
     if b / 512 % 2 == 1 { b } else { a }
 }
 
-pub fn copied(w: u16) -> u16
+// A cell as a copy has it: Absent becomes Unknown.
+fn copied(w: u16) -> u16
     ensures { λ r. ⌜ cell-of r ≡ paper.copied (cell-of w) ⌝ }
 {
     if w / 1024 % 4 == 0 { 1024 } else { w }
 }
 
-pub fn overwritten(name: u16, w: u16) -> u16
+// A cell after the name was written elsewhere.
+fn overwritten(name: u16, w: u16) -> u16
     ensures { λ r. ⌜ cell-of r ≡ paper.overwritten (name-of-word name) (cell-of w) ⌝ }
 {
     if w / 1024 % 4 == 3 {
@@ -74,7 +83,8 @@ pub fn overwritten(name: u16, w: u16) -> u16
     }
 }
 
-pub fn overwrite_row(row: &mut [u16; 32], n: usize, name: u16)
+// The first n cells of a row after the name was written elsewhere.
+fn overwrite_row(row: &mut [u16; 32], n: usize, name: u16)
     requires { ⌜ n ≤ 32 ⌝ }
     ensures { λ r. ⌜ cells-of n (now (row .exit)) ≡ map (paper.overwritten (name-of-word name)) (cells-of n (now (row .entry))) ⌝ }
 {
@@ -85,6 +95,7 @@ pub fn overwrite_row(row: &mut [u16; 32], n: usize, name: u16)
     }
 }
 
+// The state after the name was written elsewhere: no cell holds it any more.
 pub fn overwrite(mut s: State, regs: usize, slots: usize, name: u16) -> State
     requires { ⌜ (regs ≤ 32) × (slots ≤ 32) ⌝ }
     ensures { λ r. ⌜ state-of (regs ∷ slots ∷ []) r ≡ everywhere (paper.overwritten (name-of-word name)) (state-of (regs ∷ slots ∷ []) s) ⌝ }
@@ -94,16 +105,25 @@ pub fn overwrite(mut s: State, regs: usize, slots: usize, name: u16) -> State
     s
 }
 
+// The name to, with the mark of a cell.
+fn renamed(to: u16, w: u16) -> u16
+    ensures { λ r. ⌜ cell-of r ≡ paper.named (name-of-word to) (marked w) ⌝ }
+{
+    3072 + w / 512 % 2 * 512 + to % 512
+}
+
+// The slot of an ownership change, under the old rule.
 pub fn old_changed(to: u16, w: u16) -> u16
     ensures { λ r. ⌜ cell-of r ≡ paper.old-changed (name-of-word to) (cell-of w) ⌝ }
 {
     if w / 1024 % 4 == 3 {
-        3072 + w / 512 % 2 * 512 + to % 512
+        renamed(to, w)
     } else {
         3072 + to % 512
     }
 }
 
+// The slot of an ownership change, under the house rule.
 pub fn house_changed(from: u16, to: u16, w: u16) -> u16
     ensures { λ r. ⌜ cell-of r ≡ paper.house-changed (name-of-word from) (name-of-word to) (cell-of w) ⌝ }
 {
@@ -111,14 +131,14 @@ pub fn house_changed(from: u16, to: u16, w: u16) -> u16
         return w;
     }
     if w % 512 == from % 512 {
-        3072 + w / 512 % 2 * 512 + to % 512
+        renamed(to, w)
     } else {
         2048
     }
 }
 
 // What a safepoint leaves of a marked name: Unknown under the old rule, Conflicted under the house rule.
-pub fn collected(rule: Rule, w: u16) -> u16
+fn collected(rule: Rule, w: u16) -> u16
     ensures { λ r. ⌜ cell-of r ≡ paper.collected rule (cell-of w) ⌝ }
 {
     if w / 1024 % 4 != 3 {
@@ -134,7 +154,7 @@ pub fn collected(rule: Rule, w: u16) -> u16
 }
 
 // The first n cells of a row at a safepoint; bit i of `kept` is set where cell i keeps its name.
-pub fn collect_row(rule: Rule, row: &mut [u16; 32], n: usize, kept: u32)
+fn collect_row(rule: Rule, row: &mut [u16; 32], n: usize, kept: u32)
     requires { ⌜ n ≤ 32 ⌝ }
     ensures { λ r. ⌜ cells-of n (now (row .exit)) ≡ placed (λ i c. cond (listed (set-bits kept) i) c (paper.collected rule c)) (cells-of n (now (row .entry))) ⌝ }
 {
@@ -167,7 +187,7 @@ pub fn copy(mut s: State, row: usize, place: usize, other: usize, from: usize) -
 }
 
 // A row met into the n words from `at` on: whether a word changed.
-pub fn meet_row(
+fn meet_row(
     table: &[[[u8; 4]; 4]; 2],
     rule: Rule,
     words: &mut [u16],
@@ -212,7 +232,7 @@ pub fn meet_with(
 }
 
 // A row read from the n words from `at` on.
-pub fn load_row(words: &[u16], at: usize, n: usize) -> [u16; 32]
+fn load_row(words: &[u16], at: usize, n: usize) -> [u16; 32]
     requires { ⌜ (at + n ≤ length (now words)) × (n ≤ 32) ⌝ }
     ensures { λ r. ⌜ take n r ≡ region at n (now (words .entry)) ⌝ }
 {
@@ -235,7 +255,8 @@ pub fn load(words: &[u16], at: usize, regs: usize, slots: usize) -> State
     [a, b]
 }
 
-pub fn store_row(words: &mut [u16], at: usize, row: &[u16; 32], n: usize)
+// A row written to the n words from `at` on.
+fn store_row(words: &mut [u16], at: usize, row: &[u16; 32], n: usize)
     requires { ⌜ (at + n ≤ length (now words)) × (n ≤ 32) ⌝ }
     ensures { λ r. ⌜ now (words .exit) ≡ over at n (λ k w. getD (now (row .entry)) k 0) (now (words .entry)) ⌝ }
 {
@@ -246,6 +267,7 @@ pub fn store_row(words: &mut [u16], at: usize, row: &[u16; 32], n: usize)
     }
 }
 
+// The state written at `at`.
 pub fn store(words: &mut [u16], at: usize, s: State, regs: usize, slots: usize)
     requires { ⌜ (at + 64 ≤ length (now words)) × (regs ≤ 32) × (slots ≤ 32) ⌝ }
     ensures { λ r. ⌜ Stored (regs ∷ slots ∷ []) at s (now (words .entry)) (now (words .exit)) ⌝ }
@@ -255,7 +277,7 @@ pub fn store(words: &mut [u16], at: usize, s: State, regs: usize, slots: usize)
 }
 
 // Registers 0 to n - 1, each holding its own name.
-pub fn real_row(n: usize) -> [u16; 32]
+fn real_row(n: usize) -> [u16; 32]
     requires { ⌜ n ≤ 32 ⌝ }
     ensures { λ r. ⌜ cells-of n r ≡ row-of n (λ i. paper.named (real i) false) ⌝ }
 {

@@ -6,21 +6,14 @@ use Rattle.cells.proofs.house_changed.Tie as tie
 returns : tie.Need-returns
 returns c = house-changed-unnamed _ (c .if1 .taken) _ _
 
-mul-result : tie.Need-mul-result
-mul-result c = search needs
-
-add-result : tie.Need-add-result
-add-result c = search needs
-
-add-result-2 : tie.Need-add-result-2
-add-result-2 c = search needs
+renamed-requires : tie.Need-renamed-requires
+renamed-requires c κs = search needs
 
 returns-2 : tie.Need-returns-2
-returns-2 c = house-changed-same _ (c .before .if1 .left) _ _ (c .if2 .taken)
+returns-2 c = house-changed-same _ (c .before .before .if1 .left) _ _ _ (c .renamed .ensures) (c .before .if2 .taken)
 
 returns-3 : tie.Need-returns-3
 returns-3 c = house-changed-other _ (c .before .if1 .left) _ _ (c .if2 .left)
 
 pub house-changed-spec : {M : Type 1} → statement M
-house-changed-spec =
-    tie.close (tie.spec returns mul-result add-result add-result-2 returns-2 returns-3)
+house-changed-spec = tie.close (tie.spec returns renamed-requires returns-2 returns-3)

@@ -1,0 +1,10 @@
+pub mod LawsPlaces
+pub mod LawsNumbers
+pub mod LawsSearch
+pub mod LawsTold
+pub mod LawsRepeats
+pub mod LawsOperands
+pub mod LawsGroups
+pub mod LawsWords
+pub mod LawsSlots
+pub mod LawsSteps

@@ -1,0 +1,146 @@
+use mathlib.Core.Path.{sym, _∙_}
+use mathlib.Core.Bool.{true≢false}
+use Rattle.fields.specs.declared.Number.the-variants.{Value}
+use Rattle.records.specs.Records.{NumberBehind, NameBehind}
+use Rattle.records.proofs.LawsSteps.{change-no-inst, change-no-slot, change-no-from, change-no-to, change-too-long, change-says, change-ends}
+use borrow.Author.Needs.{needs}
+use Rattle.records.proofs.read_change.Statement.{statement}
+use Rattle.records.proofs.read_change.Tie as tie
+
+-- what each field that was taken tells
+got-inst : (c : tie.After-inst) → NumberBehind (c .before .before .before .before .args .s .now) (c .before .before .before .before .args .at) (Value (c .inst .given .0 .0) (c .inst .given .0 .1 .0))
+got-inst c = rw (c .inst .given .1) at (c .before .before .number-behind .ensures)
+
+abbrev inst-of : tie.After-slot → tie.After-inst
+inst-of c = c .before .before .before .before
+
+got-slot : (c : tie.After-slot) → NumberBehind (c .before .before .before .before .before .before .before .before .args .s .now) (c .before .before .before .before .inst .given .0 .1 .0) (Value (c .slot .given .0 .0) (c .slot .given .0 .1 .0))
+got-slot c = rw (c .slot .given .1) at (c .before .before .number-behind2 .ensures)
+
+got-from : (c : tie.After-from) → NameBehind (c .before .before .before .before .before .before .before .before .before .before .before .before .args .s .now) (c .before .before .before .before .slot .given .0 .1 .0) (Value (c .from .given .0 .0) (c .from .given .0 .1 .0))
+got-from c = rw (c .from .given .1) at (c .before .before .name-behind .ensures)
+
+got-to : (c : tie.After-to) → NameBehind (c .before .before .before .before .before .before .before .before .before .before .before .before .before .before .before .before .args .s .now) (c .before .before .before .before .from .given .0 .1 .0) (Value (c .to .given .0 .0) (c .to .given .0 .1 .0))
+got-to c = rw (c .to .given .1) at (c .before .before .name-behind2 .ensures)
+
+number-behind-requires : tie.Need-number-behind-requires
+number-behind-requires c κs = search needs
+
+enum-known-inst : tie.Need-enum-known-inst
+enum-known-inst c = search needs
+
+enum-told : tie.Need-enum-told
+enum-told c = search needs
+
+bad-change-requires : tie.Need-bad-change-requires
+bad-change-requires c κs = search needs
+
+returns : tie.Need-returns
+returns c = (λ e. absurd (true≢false (sym e ∙ c .bad-change .ensures .0)), λ e. change-no-inst _ _ (rw (c .before .enum-told .given .1) at (c .before .before .before .number-behind .ensures)))
+
+number-behind-requires-2 : tie.Need-number-behind-requires-2
+number-behind-requires-2 c κs = got-inst (c .before) .0 .behind
+
+enum-known-slot : tie.Need-enum-known-slot
+enum-known-slot c = search needs
+
+enum-told-2 : tie.Need-enum-told-2
+enum-told-2 c = search needs
+
+bad-change-requires-2 : tie.Need-bad-change-requires-2
+bad-change-requires-2 c κs = search needs
+
+returns-2 : tie.Need-returns-2
+returns-2 c = let k = c .before .before .before in (λ e. absurd (true≢false (sym e ∙ c .bad-change2 .ensures .0)), λ e. change-no-slot (got-inst (k .before .before) .0) (rw (c .before .enum-told2 .given .1) at (k .number-behind2 .ensures)))
+
+name-behind-requires : tie.Need-name-behind-requires
+name-behind-requires c κs = got-slot (c .before) .0 .behind
+
+enum-known-from : tie.Need-enum-known-from
+enum-known-from c = search needs
+
+enum-told-3 : tie.Need-enum-told-3
+enum-told-3 c = search needs
+
+bad-change-requires-3 : tie.Need-bad-change-requires-3
+bad-change-requires-3 c κs = search needs
+
+returns-3 : tie.Need-returns-3
+returns-3 c =
+    let f = c .before .before .before in
+    let k = f .before .before in
+    (λ e. absurd (true≢false (sym e ∙ c .bad-change3 .ensures .0)), λ e. change-no-from (got-inst (inst-of k) .0) (got-slot k .0) (rw (c .before .enum-told3 .given .1) at (f .name-behind .ensures)))
+
+name-behind-requires-2 : tie.Need-name-behind-requires-2
+name-behind-requires-2 c κs = got-from (c .before) .0 .behind
+
+enum-known-to : tie.Need-enum-known-to
+enum-known-to c = search needs
+
+enum-told-4 : tie.Need-enum-told-4
+enum-told-4 c = search needs
+
+bad-change-requires-4 : tie.Need-bad-change-requires-4
+bad-change-requires-4 c κs = search needs
+
+returns-4 : tie.Need-returns-4
+returns-4 c =
+    let t = c .before .before .before in
+    let f = t .before .before in
+    let k = f .before .before .before .before in
+    (λ e. absurd (true≢false (sym e ∙ c .bad-change4 .ensures .0)), λ e. change-no-to (got-inst (inst-of k) .0) (got-slot k .0) (got-from f .0) (rw (c .before .enum-told4 .given .1) at (t .name-behind2 .ensures)))
+
+shared-slice-read-if1 : tie.Need-shared-slice-read-if1
+shared-slice-read-if1 c = got-to (c .before .before) .0 .behind .inside
+
+bad-change-requires-5 : tie.Need-bad-change-requires-5
+bad-change-requires-5 c κs = search needs
+
+returns-5 : tie.Need-returns-5
+returns-5 c =
+    let t = c .before .before .before .before in
+    let f = t .before .before .before .before in
+    let k = f .before .before .before .before in
+    (λ e. absurd (true≢false (sym e ∙ c .bad-change5 .ensures .0)), λ e. change-too-long (got-inst (inst-of k) .0) (got-slot k .0) (got-from f .0) (got-to t .0) (c .before .if1 .taken))
+
+returns-6 : tie.Need-returns-6
+returns-6 c =
+    let t = c .before .before .before in
+    let f = t .before .before .before .before in
+    let k = f .before .before .before .before in
+    let i = got-inst (inst-of k) .0 in (
+      λ e. record {
+        says = change-says i (got-slot k .0) (got-from f .0) (got-to t .0) (c .if1 .left);
+        ends = change-ends i (got-slot k .0) (got-from f .0) (got-to t .0) (c .if1 .left);
+      },
+      λ e. absurd (true≢false e),
+    )
+
+pub read-change-spec : {M : Type 1} → statement M
+read-change-spec =
+    tie.close
+    (tie.spec
+    number-behind-requires
+    enum-known-inst
+    enum-told
+    bad-change-requires
+    returns
+    number-behind-requires-2
+    enum-known-slot
+    enum-told-2
+    bad-change-requires-2
+    returns-2
+    name-behind-requires
+    enum-known-from
+    enum-told-3
+    bad-change-requires-3
+    returns-3
+    name-behind-requires-2
+    enum-known-to
+    enum-told-4
+    bad-change-requires-4
+    returns-4
+    shared-slice-read-if1
+    bad-change-requires-5
+    returns-5
+    returns-6)
