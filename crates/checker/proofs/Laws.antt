@@ -1,0 +1,189 @@
+-- From what the callees promise to what is said of a sheet, and from that to the paper's outcome.
+use mathlib.Core.Path.{_≡_, refl, sym, ap, _∙_, subst}
+use mathlib.Core.Bool.{Bool, true, false, cond, _||_, or-true}
+use mathlib.Core.List.{List, [], _∷_, _++_}
+use Prim.Native.Nat.{ℕ, _+_, _≤_, _<_}
+use native.Mathlib.Omega.{arith}
+use lib.Dec.{ltb}
+use lib.ListN.{length, drop, replicate, length-append, length-drop}
+use borrow.Author.Tests.{lt-ltb, le-ltb}
+use Rattle.paper.specs.Text.{Bytes}
+use Rattle.paper.specs.Sheet.{Sheet}
+use Rattle.paper.specs.Limits.{report-size, words-size, queue-size, max-sheet, max-steps}
+use Rattle.paper.specs.Refusals.{Reading, loaded, refused, read, step-count}
+use Rattle.paper.specs.Runs.{checked-from}
+use Rattle.paper.specs.Report.{Line, report-text, missing-allocations, find-errors, faults, first-list}
+use Rattle.paper.specs.Answer.{Said, accepted, faulty, turned-away, said-of, said-after, answer, written, Lent, too-short, laid, zeros, Outcome, outcome-of, outcome}
+use Rattle.paper.specs.declared.Rule.{Rule}
+use Rattle.paper.specs.declared.Answer.{Answer}
+use Rattle.paper.specs.declared.Answer.the-variants.{Accepted, Faulty, Refused}
+use Rattle.walks.specs.Reading.{read-few}
+use Rattle.sheet.specs.Loaded.{regs-word, slots-word, blocks-word, sheet-of, Loaded}
+use Rattle.sheet.specs.Reading.{loading-of, Load}
+use Rattle.sheet.specs.declared.Loading as Loading
+use Rattle.sheet.specs.declared.Loading.the-variants as loading
+use Rattle.cells.specs.States.{stored-state}
+use Rattle.runs.specs.Layout.{state-at}
+use Rattle.runs.specs.Stands.{Analysed, analysed-sheet, analysed-loaded}
+use Rattle.report.specs.Missing.{missing-lines, MissingOf}
+use Rattle.report.specs.declared.Missing.{Missing}
+use Rattle.report.specs.declared.Missing.the-variants.{Nothing, Found}
+use Rattle.report.specs.Reported.{Checkable, answered, Reported}
+use Rattle.checker.specs.Checked.{Few, lent, answer-of, report-of, AnswerWithin, Answered, Checked, verdict-of, rule-of, Exported}
+use Rattle.checker.specs.declared.Verdict.{Verdict}
+use Rattle.checker.proofs.Refused.{Bounded, read-bounded}
+
+-- what `report` answers and writes is what is said of the lines
+said-answer : (rule : Rule) (ls : List Line) → answered rule ls ≡ answer-of (said-of rule ls)
+unfolding answered answer-of said-of
+said-answer rule [] = refl
+said-answer rule (l ∷ ls) = refl
+
+said-report : (rule : Rule) (ls : List Line) (report : List ℕ) → laid (report-text rule ls) report ≡ report-of (said-of rule ls) report
+unfolding report-of said-of
+said-report rule [] report = refl
+said-report rule (l ∷ ls) report = refl
+
+said-within : (rule : Rule) (ls : List Line) → length (report-text rule ls) ≤ report-size → AnswerWithin (answered rule ls)
+unfolding answered
+said-within rule [] h = h
+said-within rule (l ∷ ls) h = h
+
+pub reported : {rule : Rule} {ls : List Line} {report words queue report′ words′ queue′ : List ℕ} {r : Answer} → Reported rule ls report r report′
+    → length words′ ≡ length words → length queue′ ≡ length queue → Answered (said-of rule ls) report words queue report′ words′ queue′ r
+reported {rule} {ls} {report} p w q = record {
+  answer-is = p .answer ∙ said-answer rule ls;
+  report-is = p .text ∙ said-report rule ls report;
+  same-words = w;
+  same-queue = q;
+  within = subst AnswerWithin (sym (p .answer)) (said-within rule ls (p .fits));
+}
+
+-- the words behind the analysis can be checked
+module _ {rule : Rule} {words queue words′ queue′ : List ℕ} (loads : Loaded words) (few : Few words) (full : missing-allocations (sheet-of words) ≡ [])
+    (a : Analysed rule words queue words′ queue′) where
+  pub same-sheet : sheet-of words′ ≡ sheet-of words
+  same-sheet = analysed-sheet loads a
+
+  StatesOf : Sheet → Type 0
+  StatesOf S = (b : ℕ) → b < S .blocks → stored-state (S .regs ∷ S .slots ∷ []) (state-at b) words′ ≡ checked-from rule S b
+
+  states-of : StatesOf (sheet-of words)
+  unfolding StatesOf sheet-of
+  states-of = a .states
+
+  pub checkable : Checkable rule words′
+  unfolding StatesOf sheet-of
+  checkable = record {
+    loaded = analysed-loaded loads a;
+    few = subst (λ (S : Sheet). step-count (S .body) ≤ max-steps) (sym same-sheet) few;
+    allocated = subst (λ (S : Sheet). missing-allocations S ≡ []) (sym same-sheet) full;
+    states = subst StatesOf (sym same-sheet) states-of;
+  }
+
+-- a sheet that was loaded, or was refused
+pub loads-sheet : {sheet : Bytes} {before after : List ℕ} {r : Loading.Loading} → Load sheet before after r → r ≡ loading.Loaded → (S : Sheet) × (read sheet ≡ loaded S)
+unfolding loading-of
+loads-sheet {sheet} l e = go (read sheet) refl (sym (l .answer) ∙ e)
+  where
+    go : (o : Reading) → read sheet ≡ o → loading-of o ≡ loading.Loaded → (S : Sheet) × (read sheet ≡ loaded S)
+    go (loaded S) h f = (S, h)
+    go (refused number line) h f = let z : _≡_ {A = ℕ} 0 1 = cc in absurd (omega arith)
+
+pub refuses-sheet : {sheet : Bytes} {before after : List ℕ} {r : Loading.Loading} {number line : ℕ} → Load sheet before after r → r ≡ loading.Refused number line
+    → read sheet ≡ refused number line
+unfolding loading-of
+refuses-sheet {sheet} {number} {line} l e = go (read sheet) refl (sym (l .answer) ∙ e)
+  where
+    go : (o : Reading) → read sheet ≡ o → loading-of o ≡ loading.Refused number line → read sheet ≡ refused number line
+    go (loaded S) h f = let z : _≡_ {A = ℕ} 0 1 = cc in absurd (omega arith)
+    go (refused n l) h f = h ∙ (cc)
+
+module _ {sheet : Bytes} {before after : List ℕ} {r : Loading.Loading} (l : Load sheet before after r) where
+  module _ (e : r ≡ loading.Loaded) where
+    pub loaded-words : Loaded after
+    loaded-words = l .meaning (loads-sheet l e .0) (loads-sheet l e .1) .1
+
+    is-sheet : sheet-of after ≡ loads-sheet l e .0
+    is-sheet = l .meaning (loads-sheet l e .0) (loads-sheet l e .1) .0
+
+    pub few-steps : Few after
+    few-steps = subst (λ (S : Sheet). step-count (S .body) ≤ max-steps) (sym is-sheet) (read-few sheet (loads-sheet l e .0) (loads-sheet l e .1))
+
+    -- what is said of the loaded sheet is what is said of the bytes
+    pub said-of-loaded : (rule : Rule) → said-of rule (faults rule (sheet-of after)) ≡ answer rule sheet
+    unfolding answer said-after
+    said-of-loaded rule = ap (λ (S : Sheet). said-of rule (faults rule S)) is-sheet ∙ sym (ap (said-after rule) (loads-sheet l e .1))
+
+  -- a refusal is said as it is
+  pub refused-answer : (rule : Rule) {report words queue : List ℕ} {number line : ℕ} → r ≡ loading.Refused number line → length after ≡ length words
+      → Answered (answer rule sheet) report words queue report after queue (Refused number line)
+  unfolding answer said-after answer-of report-of
+  refused-answer rule {report} {words} {queue} {number} {line} e w =
+      let h : read sheet ≡ refused number line = refuses-sheet l e in
+      let b = read-bounded sheet number line h in
+      rw h (record { answer-is = refl; report-is = refl; same-words = w; same-queue = refl; within = (b .most, omega arith) })
+
+-- no step lacks an allocation
+pub nothing-missing : {words : List ℕ} {r : Missing} → MissingOf words r → r ≡ Nothing → missing-allocations (sheet-of words) ≡ []
+unfolding missing-lines
+nothing-missing {words} m e = m .lines ∙ ap (missing-lines words) e
+
+-- said of the loaded words, and so of the sheet
+pub answered-from : {said said′ : Said} {report words words₁ queue report′ words′ queue′ : List ℕ} {r : Answer}
+    → Answered said report words₁ queue report′ words′ queue′ r → said ≡ said′ → length words₁ ≡ length words → Answered said′ report words queue report′ words′ queue′ r
+answered-from {report} {r} a e w = record {
+  answer-is = a .answer-is ∙ ap answer-of e;
+  report-is = a .report-is ∙ ap (λ (s : Said). report-of s report) e;
+  same-words = a .same-words ∙ w;
+  same-queue = a .same-queue;
+  within = a .within;
+}
+
+-- the buffers' lengths decide refusal 1
+module _ (report words queue : List ℕ) where
+  pub short-report : length report < report-size → too-short (lent report words queue) ≡ true
+  unfolding too-short
+  short-report h = rw (lt-ltb _ _ h)
+
+  pub short-words : length words < words-size → too-short (lent report words queue) ≡ true
+  unfolding too-short
+  short-words h = rw (lt-ltb _ _ h) (or-true (ltb (length report) report-size))
+
+  pub short-queue : length queue < queue-size → too-short (lent report words queue) ≡ true
+  unfolding too-short
+  short-queue h = rw (lt-ltb _ _ h, or-true) (or-true (ltb (length report) report-size))
+
+  pub long-enough : report-size ≤ length report → words-size ≤ length words → queue-size ≤ length queue → too-short (lent report words queue) ≡ false
+  unfolding too-short
+  long-enough a b c = rw (le-ltb _ _ a, le-ltb _ _ b, le-ltb _ _ c)
+
+-- refusal 1 changes nothing
+pub turned-short : (rule : Rule) (sheet : Bytes) (before : Lent) → too-short before ≡ true → Checked rule sheet before before (Refused 1 0)
+unfolding outcome
+turned-short rule sheet before e = record { whole = rw e; within = (omega arith, omega arith) }
+
+-- any other answer leaves the scratch zero
+said-outcome : (said : Said) (before : Lent)
+    → _≡_ {A = Outcome}
+    (record { answer = answer-of said; lent = record { report = report-of said (before .report); words = zeros (before .words); queue = zeros (before .queue) } }) (outcome-of said before)
+unfolding answer-of report-of outcome-of
+said-outcome (accepted text) before = refl
+said-outcome (faulty text) before = refl
+said-outcome (turned-away number line) before = refl
+
+pub checked : {rule : Rule} {sheet : Bytes} {report words queue report′ words₁ queue₁ words′ queue′ : List ℕ} {r : Answer}
+    → Answered (answer rule sheet) report words queue report′ words₁ queue₁ r → words′ ≡ replicate (length words₁) 0 → queue′ ≡ replicate (length queue₁) 0
+    → too-short (lent report words queue) ≡ false → Checked rule sheet (lent report words queue) (lent report′ words′ queue′) r
+unfolding outcome zeros
+checked {rule} {sheet} {report} {words} {queue} a w q e = record {
+  whole = rw (e, w, q, a .same-words, a .same-queue, a .answer-is, a .report-is) (unfold zeros in said-outcome (answer rule sheet) (lent report words queue));
+  within = a .within;
+}
+
+-- the same over the C interface
+pub exported : {house : Bool} {rule : Rule} {sheet : Bytes} {before after : Lent} {a : Answer} {r : Verdict} → Checked rule sheet before after a → rule ≡ rule-of house
+    → r ≡ verdict-of a → Exported house sheet before after r
+exported {sheet} {before} c e v =
+    let w = c .whole ∙ ap (λ (rule : Rule). outcome rule sheet before) e in
+    record { verdict-is = v ∙ ap (λ (o : Outcome). verdict-of (o .answer)) w; lent-is = ap (λ (o : Outcome). o .lent) w }

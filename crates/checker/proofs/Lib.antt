@@ -1,0 +1,4 @@
+pub mod Refused
+pub mod Laws
+pub mod Texts
+pub mod Theorems

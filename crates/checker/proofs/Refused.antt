@@ -1,0 +1,111 @@
+-- A refusal that reading gives has a number from 2 to 9, and a line that is at most one behind the last: each line is at least one
+-- byte of the sheet.
+use mathlib.Core.Path.{_≡_, refl, sym, ap}
+use mathlib.Core.Bool.{Bool, true, false, cond, _||_}
+use mathlib.Core.List.{List, [], _∷_}
+use mathlib.Core.Option.{Option, none, some}
+use Prim.Native.Nat.{ℕ, suc, zero, _+_, _≤_}
+use native.Mathlib.Omega.{arith}
+use lib.Dec.{eqb, ltb}
+use lib.ListN.{length}
+use borrow.Author.Tests.{ltb-false}
+use Rattle.paper.specs.Text.{Bytes, line-feed, fields, onto-first, parts, lines}
+use Rattle.paper.specs.Sheet.{Sheet}
+use Rattle.paper.specs.Limits.{max-sheet}
+use Rattle.paper.specs.Refusals.{Record, record-of, empty, Condition, first-holding, conditions, Reading, loaded, refused, Lined, good, bad, judged, read-record, read-line, read-end, carry-on, read-lines, no-text, read}
+
+-- the numbers that a refusal can have, and its line, where reading goes on from `line` with n lines
+pub record Bounded (line n number at : ℕ) : Type 0 where
+  pub least : 2 ≤ number
+  pub most : number ≤ 9
+  pub inside : at ≤ line + n
+
+apart : {Q : Type 0} {number line : ℕ} {S : Sheet} → loaded S ≡ refused number line → Q
+apart e = let z : _≡_ {A = ℕ} 0 1 = cc in absurd (omega arith)
+
+-- there are at most as many lines as bytes
+onto-length : (b : ℕ) (ps : List Bytes) → length (onto-first b ps) ≤ suc (length ps)
+unfolding onto-first
+onto-length b [] = omega arith
+onto-length b (p ∷ ps) = omega arith
+
+lines-length : (text : Bytes) → length (lines text) ≤ length text
+unfolding lines parts
+lines-length [] = omega arith
+lines-length (b ∷ bs) = go (eqb b line-feed) (lines-length bs)
+  where
+    go : (t : Bool) → length (parts line-feed [] bs) ≤ length bs
+        → length (cond t ([] ∷ parts line-feed [] bs) (onto-first b (parts line-feed [] bs))) ≤ suc (length bs)
+    go true h = omega arith
+    go false h = omega (arith, onto-length b (parts line-feed [] bs))
+
+-- the conditions on a line are numbered from 4 to 9
+first-step : (number : ℕ) (holds : Bool) (cs : List Condition) (n : ℕ) → 2 ≤ number → number ≤ 9
+    → (first-holding cs ≡ some n → (2 ≤ n) × (n ≤ 9)) → first-holding (record { number = number; holds = holds } ∷ cs) ≡ some n → (2 ≤ n) × (n ≤ 9)
+unfolding first-holding
+first-step number true cs n l m rest e = let z : number ≡ n = cc in (omega arith, omega arith)
+first-step number false cs n l m rest e = rest e
+
+none-holding : (n : ℕ) → first-holding [] ≡ some n → (2 ≤ n) × (n ≤ 9)
+unfolding first-holding
+none-holding n e = let z : _≡_ {A = ℕ} 0 1 = cc in absurd (omega arith)
+
+numbered : (so-far : Option Sheet) (r : Record) (n : ℕ) → first-holding (conditions so-far r) ≡ some n → (2 ≤ n) × (n ≤ 9)
+unfolding conditions
+numbered so-far r n =
+    first-step 4 _ _ n (omega arith) (omega arith)
+    (first-step 5 _ _ n (omega arith) (omega arith)
+    (first-step 6 _ _ n (omega arith) (omega arith)
+    (first-step 7 _ _ n (omega arith) (omega arith) (first-step 8 _ _ n (omega arith) (omega arith) (first-step 9 _ _ n (omega arith) (omega arith) (none-holding n))))))
+
+line-numbered : (so-far : Option Sheet) (line : Bytes) (n : ℕ) → read-line so-far line ≡ bad n → (2 ≤ n) × (n ≤ 9)
+unfolding read-line read-record judged
+line-numbered so-far line n e = at (record-of (fields line)) e
+  where
+    met : (r : Record) (o : Option ℕ) → first-holding (conditions so-far r) ≡ o → judged so-far r o ≡ bad n → (2 ≤ n) × (n ≤ 9)
+    met r none h f = let z : _≡_ {A = ℕ} 0 1 = cc in absurd (omega arith)
+    met r (some k) h f = let z : k ≡ n = cc in numbered so-far r n (rw z at h)
+
+    at : (o : Option Record) → read-record so-far o ≡ bad n → (2 ≤ n) × (n ≤ 9)
+    at none f = let z : 3 ≡ n = cc in (omega arith, omega arith)
+    at (some r) f = met r (first-holding (conditions so-far r)) refl f
+
+refused-is : {n k l m : ℕ} → refused n l ≡ refused k m → (n ≡ k) × (l ≡ m)
+refused-is e = (cc, cc)
+
+lines-bounded : (ls : List Bytes) (line : ℕ) (so-far : Option Sheet) (n l : ℕ) → read-lines line so-far ls ≡ refused n l → Bounded line (length ls) n l
+unfolding read-lines read-end carry-on
+lines-bounded [] line none n l e = let p = refused-is e in record { least = omega arith; most = omega arith; inside = omega arith }
+lines-bounded [] line (some S) n l e = go (ltb (length (S .body)) (S .blocks)) e
+  where
+    go : (b : Bool) → cond b (refused 4 line) (loaded S) ≡ refused n l → Bounded line 0 n l
+    go true f = let p = refused-is f in record { least = omega arith; most = omega arith; inside = omega arith }
+    go false f = apart f
+lines-bounded (x ∷ ls) line so-far n l e = at (read-line so-far x) refl e (λ R. lines-bounded ls (suc line) (some R) n l)
+  where
+    at : (o : Lined) → read-line so-far x ≡ o → carry-on line o (λ R. read-lines (suc line) (some R) ls) ≡ refused n l
+        → ((R : Sheet) → read-lines (suc line) (some R) ls ≡ refused n l → Bounded (suc line) (length ls) n l) → Bounded line (suc (length ls)) n l
+    at (good R) h f rec = let b = rec R f in record { least = b .least; most = b .most; inside = omega arith }
+    at (bad k) h f rec =
+        let p = refused-is f in
+        let q = line-numbered so-far x k h in
+        record { least = omega arith; most = omega arith; inside = omega arith }
+
+pub read-bounded : (sheet : Bytes) (n l : ℕ) → read sheet ≡ refused n l → Bounded 1 max-sheet n l
+unfolding read no-text
+read-bounded sheet n l e = go (empty sheet) (ltb max-sheet (length sheet)) refl _ e
+  where
+    open-line : length sheet ≤ max-sheet → read-lines 1 none (lines sheet) ≡ refused n l → Bounded 1 max-sheet n l
+    open-line h f =
+        let b = lines-bounded (lines sheet) 1 none n l f in
+        record { least = b .least; most = b .most; inside = omega (arith, lines-length sheet) }
+
+    two : refused 2 0 ≡ refused n l → Bounded 1 max-sheet n l
+    two f = let p = refused-is f in record { least = omega arith; most = omega arith; inside = omega arith }
+
+    go : (a b : Bool) → ltb max-sheet (length sheet) ≡ b → (c : Bool) → cond (a || (b || c)) (refused 2 0) (read-lines 1 none (lines sheet)) ≡ refused n l
+        → Bounded 1 max-sheet n l
+    go true b h c f = two f
+    go false true h c f = two f
+    go false false h true f = two f
+    go false false h false f = open-line (ltb-false max-sheet (length sheet) h) f

@@ -1,0 +1,157 @@
+-- What a program writes: from the outcome of a call to the text at the start of the report.
+use mathlib.Core.Path.{_≡_, refl, sym, ap, _∙_, subst}
+use mathlib.Core.Bool.{Bool, true, false, cond, _||_}
+use mathlib.Core.Logic.{_⊎_, inl, inr, ⊎-elim}
+use mathlib.Core.List.{List, [], _∷_, _++_, append-assoc}
+use Prim.Native.Nat.{ℕ, _+_, _≤_, _<_}
+use native.Mathlib.Nat.{zero-add}
+use native.Mathlib.Omega.{arith}
+use lib.Dec.{ltb}
+use lib.ListN.{length, drop, length-append}
+use lib.Seq.{sets-eq}
+use borrow.Author.Tests.{ltb-false}
+use Rattle.lists.specs.Sets.{Wrote, length-wrote}
+use Rattle.fields.specs.Spelling.{length-digits}
+use Rattle.paper.specs.Text.{Bytes, tab, line-feed, digits}
+use Rattle.paper.specs.Limits.{report-size, max-sheet}
+use Rattle.paper.specs.Refusals.{Reading, loaded, refused, read}
+use Rattle.paper.specs.Report.{Line, behind-tabs, faults}
+use Rattle.paper.specs.Answer.{Said, accepted, faulty, turned-away, said-of, said-after, answer, letter-X, written, Lent, too-short, laid, zeros, Outcome, outcome-of, outcome}
+use Rattle.paper.specs.declared.Rule.{Rule}
+use Rattle.paper.specs.declared.Answer.{Answer}
+use Rattle.paper.specs.declared.Answer.the-variants.{Accepted, Faulty, Refused}
+use Rattle.checker.specs.Checked.{lent, refusal-text, AnswerWithin, Checked, text-of, lent-behind, Texted}
+use Rattle.checker.proofs.Refused.{read-bounded}
+
+pub digits-short : (n : ℕ) → n ≤ 65537 → length (digits n) ≤ 5
+digits-short n h = length-digits n (omega arith)
+
+-- `X number line`, as it is written part by part
+pub refusal-spelled : (number line : ℕ) → ((((letter-X ∷ []) ++ (tab ∷ digits number)) ++ (tab ∷ digits line)) ++ (line-feed ∷ [])) ≡ refusal-text number line
+unfolding refusal-text written behind-tabs
+refusal-spelled number line = ap (λ (t : Bytes). letter-X ∷ tab ∷ t) (append-assoc (digits number) (tab ∷ digits line) (line-feed ∷ []))
+
+pub refusal-wrote : {l l′ : List ℕ} {r : ℕ} (number line : ℕ) → Wrote l 0 ((((letter-X ∷ []) ++ (tab ∷ digits number)) ++ (tab ∷ digits line)) ++ (line-feed ∷ [])) l′ r
+    → Wrote l 0 (refusal-text number line) l′ r
+refusal-wrote {l} {l′} {r} number line w = subst (λ (t : Bytes). Wrote l 0 t l′ r) (refusal-spelled number line) w
+
+refusal-length : (number line : ℕ) → number ≤ 9 → line ≤ 65537 → length (refusal-text number line) ≤ 14
+unfolding refusal-text written behind-tabs
+refusal-length number line h k =
+    omega (arith, length-append (digits number) (tab ∷ (digits line ++ (line-feed ∷ []))), length-append (digits line) (line-feed ∷ []), digits-short number (omega arith), digits-short line k)
+
+laid-length : (text report : List ℕ) → length text ≤ length (laid text report)
+unfolding laid
+laid-length text report = omega (arith, length-append text (drop (length text) report))
+
+wrote-laid : {l xs l′ : List ℕ} {k : ℕ} → Wrote l 0 xs l′ k → k ≤ length l → l′ ≡ laid xs l
+unfolding laid
+wrote-laid {l} {xs} w h =
+    let z : 0 + length xs ≡ length xs = omega arith in
+    w .list ∙ rw z at (sets-eq xs l 0 (omega (arith, w .next)))
+
+-- bytes are never refused by number 1
+said-number : (rule : Rule) (sheet : Bytes) (number line : ℕ) → answer rule sheet ≡ turned-away number line → 2 ≤ number
+unfolding answer said-after said-of
+said-number rule sheet number line e = at (read sheet) refl e
+  where
+    no-report : (ls : List Line) → said-of rule ls ≡ turned-away number line → 2 ≤ number
+    no-report [] f = let z : _≡_ {A = ℕ} 0 1 = cc in absurd (omega arith)
+    no-report (l ∷ ls) f = let z : _≡_ {A = ℕ} 0 1 = cc in absurd (omega arith)
+
+    at : (o : Reading) → read sheet ≡ o → said-after rule o ≡ turned-away number line → 2 ≤ number
+    at (loaded S) h f = no-report (faults rule S) f
+    at (refused n l) h f = let z : n ≡ number = cc in subst (λ (m : ℕ). 2 ≤ m) z (read-bounded sheet n l h .least)
+
+module _ {rule : Rule} {sheet : Bytes} {before after : Lent} {r : Answer} (c : Checked rule sheet before after r) where
+  -- the answer and the buffers of the outcome
+  answer-told : (o : Outcome) → outcome rule sheet before ≡ o → (r ≡ o .answer) × (after ≡ o .lent)
+  answer-told o e = (ap (λ (x : Outcome). x .answer) (c .whole ∙ e), ap (λ (x : Outcome). x .lent) (c .whole ∙ e))
+
+  -- an answer with a report
+  pub texted : (n : ℕ) → (r ≡ Accepted n) ⊎ (r ≡ Faulty n) → Texted rule sheet before after n
+  unfolding outcome outcome-of text-of lent-behind written
+  texted n e = at (too-short before) refl (answer rule sheet) refl
+    where
+      not-refused : {Q : Type 0} {k l : ℕ} → r ≡ Refused k l → Q
+      not-refused f = ⊎-elim (λ h. let z : _≡_ {A = ℕ} 0 1 = cc in absurd (omega arith)) (λ h. let z : _≡_ {A = ℕ} 0 1 = cc in absurd (omega arith)) e
+
+      with-text : (text : Bytes) → too-short before ≡ false → written (answer rule sheet) ≡ text → n ≡ length text
+          → after ≡ record { report = laid text (before .report); words = zeros (before .words); queue = zeros (before .queue) } → Texted rule sheet before after n
+      with-text text s t k a = record {
+        length-is = rw (s, t) k;
+        lent-is = rw (s, t) a;
+        fits = rw (a, k) (laid-length text (before .report));
+      }
+
+      at : (b : Bool) → too-short before ≡ b → (said : Said) → answer rule sheet ≡ said → Texted rule sheet before after n
+      at true s said t = not-refused (answer-told (record { answer = Refused 1 0; lent = before }) (rw s) .0)
+      at false s (accepted text) t =
+          let p = answer-told (outcome-of (accepted text) before) (rw (s, t)) in
+          with-text text s (ap written t) (⊎-elim (λ h. (cc)) (λ h. let z : _≡_ {A = ℕ} 0 1 = cc in absurd (omega arith)) e) (p .1)
+      at false s (faulty text) t =
+          let p = answer-told (outcome-of (faulty text) before) (rw (s, t)) in
+          with-text text s (ap written t) (⊎-elim (λ h. let z : _≡_ {A = ℕ} 0 1 = cc in absurd (omega arith)) (λ h. (cc)) e) (p .1)
+      at false s (turned-away k l) t = not-refused (answer-told (outcome-of (turned-away k l) before) (rw (s, t)) .0)
+
+  -- refusal 1 changes nothing, and no other has its number
+  pub texted-short : (line : ℕ) → r ≡ Refused 1 line → Texted rule sheet before after 0
+  unfolding outcome outcome-of text-of lent-behind
+  texted-short line e = at (too-short before) refl (answer rule sheet) refl
+    where
+      at : (b : Bool) → too-short before ≡ b → (said : Said) → answer rule sheet ≡ said → Texted rule sheet before after 0
+      at true s said t = let p = answer-told (record { answer = Refused 1 0; lent = before }) (rw s) in record { length-is = rw s; lent-is = rw s (p .1); fits = omega arith }
+      at false s (accepted text) t = let p = answer-told (outcome-of (accepted text) before) (rw (s, t)) .0 in let z : _≡_ {A = ℕ} 0 1 = cc in absurd (omega arith)
+      at false s (faulty text) t = let p = answer-told (outcome-of (faulty text) before) (rw (s, t)) .0 in let z : _≡_ {A = ℕ} 0 1 = cc in absurd (omega arith)
+      at false s (turned-away k l) t =
+          let p = answer-told (outcome-of (turned-away k l) before) (rw (s, t)) .0 in
+          let z : k ≡ 1 = cc in
+          absurd (omega (arith, said-number rule sheet k l t))
+
+  -- any other refusal leaves the report as it was, and there is room for its line
+  module _ (number line : ℕ) (e : r ≡ Refused number line) (other : number ≡ 1 → ⊥) where
+    pub record Turned : Type 0 where
+      pub long : too-short before ≡ false
+      pub said : answer rule sheet ≡ turned-away number line
+      pub left : after ≡ record { report = before .report; words = zeros (before .words); queue = zeros (before .queue) }
+
+    pub turned : Turned
+    unfolding outcome outcome-of
+    turned = at (too-short before) refl (answer rule sheet) refl
+      where
+        at : (b : Bool) → too-short before ≡ b → (said : Said) → answer rule sheet ≡ said → Turned
+        at true s said t =
+            let p = answer-told (record { answer = Refused 1 0; lent = before }) (rw s) .0 in
+            let z : number ≡ 1 = cc in
+            absurd (other z)
+        at false s (accepted text) t = let p = answer-told (outcome-of (accepted text) before) (rw (s, t)) .0 in let z : _≡_ {A = ℕ} 0 1 = cc in absurd (omega arith)
+        at false s (faulty text) t = let p = answer-told (outcome-of (faulty text) before) (rw (s, t)) .0 in let z : _≡_ {A = ℕ} 0 1 = cc in absurd (omega arith)
+        at false s (turned-away k l) t =
+            let p = answer-told (outcome-of (turned-away k l) before) (rw (s, t)) in
+            let q = p .0 in
+            let zk : k ≡ number = cc in
+            let zl : l ≡ line = cc in
+            record { long = s; said = t ∙ ap (λ (n : ℕ). turned-away n l) zk ∙ ap (turned-away number) zl; left = p .1 }
+
+    pub room : report-size ≤ length (after .report)
+    unfolding too-short
+    room = rw (turned .left) (long-report (ltb (length (before .report)) report-size) _ refl (turned .long))
+      where
+        long-report : (b rest : Bool) → ltb (length (before .report)) report-size ≡ b → (b || rest) ≡ false → report-size ≤ length (before .report)
+        long-report true rest s f = let z : _≡_ {A = ℕ} 0 1 = cc in absurd (omega arith)
+        long-report false rest s f = ltb-false (length (before .report)) report-size s
+
+    pub texted-refusal : {report : List ℕ} {n : ℕ} → number ≤ 9 → line ≤ 65537 → Wrote (after .report) 0 (refusal-text number line) report n
+        → Texted rule sheet before (lent report (after .words) (after .queue)) n
+    unfolding text-of lent-behind refusal-text
+    texted-refusal {report} {n} h k w =
+        let t = turned in
+        let short : length (refusal-text number line) ≤ 14 = refusal-length number line h k in
+        let big = room in
+        record {
+          length-is = rw (t .long, t .said) (unfold refusal-text in (omega (arith, w .next)));
+          lent-is =
+              rw (t .long, t .said)
+              (unfold refusal-text in (cc (wrote-laid w (omega (arith, w .next)), ap (λ (x : Lent). x .report) (t .left), ap (λ (x : Lent). x .words) (t .left), ap (λ (x : Lent). x .queue) (t .left))));
+          fits = omega (arith, w .next, length-wrote w);
+        }

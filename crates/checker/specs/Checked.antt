@@ -1,0 +1,88 @@
+-- What a call leaves behind, against the paper's `outcome`: the answer and the three lent buffers in one equation.
+use mathlib.Core.Path.{_≡_}
+use mathlib.Core.Bool.{Bool, true, false, cond}
+use mathlib.Core.List.{List, [], _∷_}
+use Prim.Native.Nat.{ℕ, _+_, _≤_}
+use lib.ListN.{length}
+use Rattle.paper.specs.Text.{Bytes}
+use Rattle.paper.specs.Limits.{report-size, max-sheet, max-steps}
+use Rattle.paper.specs.Refusals.{step-count}
+use Rattle.paper.specs.Report.{Line, report-text}
+use Rattle.paper.specs.Answer.{Said, accepted, faulty, turned-away, said-of, answer, written, Lent, too-short, laid, zeros, Outcome, outcome}
+use Rattle.sheet.specs.Loaded.{sheet-of}
+use Rattle.paper.specs.declared.Rule.{Rule}
+use Rattle.paper.specs.declared.Rule.the-variants.{Old, House}
+use Rattle.paper.specs.declared.Answer.{Answer}
+use Rattle.paper.specs.declared.Answer.the-variants.{Accepted, Faulty, Refused}
+use Rattle.checker.specs.declared.Verdict.{Verdict}
+
+-- the sheet in the words has at most 1,024 steps
+abbrev pub Few : List ℕ → Type 0
+Few words = step-count ((sheet-of words) .body) ≤ max-steps
+
+-- `X number line`
+unfoldable pub refusal-text : ℕ → ℕ → Bytes
+refusal-text number line = written (turned-away number line)
+
+abbrev pub lent : List ℕ → List ℕ → List ℕ → Lent
+lent report words queue = record { report = report; words = words; queue = queue }
+
+-- the answer that is returned for what is said, and the report behind it
+unfoldable pub answer-of : Said → Answer
+answer-of (accepted text) = Accepted (length text)
+answer-of (faulty text) = Faulty (length text)
+answer-of (turned-away number line) = Refused number line
+
+unfoldable pub report-of : Said → List ℕ → List ℕ
+report-of (accepted text) report = laid text report
+report-of (faulty text) report = laid text report
+report-of (turned-away number line) report = report
+
+-- the numbers of an answer keep their bounds
+abbrev pub AnswerWithin : Answer → Type 0
+AnswerWithin (Accepted n) = n ≤ report-size
+AnswerWithin (Faulty n) = n ≤ report-size
+AnswerWithin (Refused number line) = (number ≤ 9) × (line ≤ max-sheet + 1)
+
+-- what is said of a sheet was answered, and stands in the report; the scratch keeps its lengths
+pub record Answered (said : Said) (report words queue report′ words′ queue′ : List ℕ) (r : Answer) : Type 0 where
+  pub answer-is : r ≡ answer-of said
+  pub report-is : report′ ≡ report-of said report
+  pub same-words : length words′ ≡ length words
+  pub same-queue : length queue′ ≡ length queue
+  pub within : AnswerWithin r
+
+-- the whole of a call
+pub record Checked (rule : Rule) (sheet : Bytes) (before after : Lent) (r : Answer) : Type 0 where
+  pub whole : _≡_ {A = Outcome} (record { answer = r; lent = after }) (outcome rule sheet before)
+  pub within : AnswerWithin r
+
+-- what a program writes of the answer: nothing where refusal 1 is given
+unfoldable pub text-of : Rule → Bytes → Lent → Bytes
+text-of rule sheet before = cond (too-short before) [] (written (answer rule sheet))
+
+-- the lent buffers behind the text: refusal 1 changes nothing
+unfoldable pub lent-behind : Rule → Bytes → Lent → Lent
+lent-behind rule sheet before =
+    cond (too-short before) before
+    (record { report = laid (written (answer rule sheet)) (before .report); words = zeros (before .words); queue = zeros (before .queue) })
+
+pub record Texted (rule : Rule) (sheet : Bytes) (before after : Lent) (r : ℕ) : Type 0 where
+  pub length-is : r ≡ length (text-of rule sheet before)
+  pub lent-is : after ≡ lent-behind rule sheet before
+  pub fits : r ≤ length (after .report)
+
+-- over the C interface: 0 accepted, 1 faulty, 2 refused; the report's length; the refusal's number and line
+unfoldable pub verdict-of : Answer → Verdict
+verdict-of (Accepted n) = record { answer = 0; number = 0; length = n; line = 0 }
+verdict-of (Faulty n) = record { answer = 1; number = 0; length = n; line = 0 }
+verdict-of (Refused number line) = record { answer = 2; number = number; length = 0; line = line }
+
+-- the rule as a bool: no third value
+abbrev pub rule-of : Bool → Rule
+rule-of true = House
+rule-of false = Old
+
+pub record Exported (house : Bool) (sheet : Bytes) (before after : Lent) (r : Verdict) : Type 0 where
+  pub verdict-is : r ≡ verdict-of ((outcome (rule-of house) sheet before) .answer)
+  pub lent-is : after ≡ (outcome (rule-of house) sheet before) .lent

@@ -1,0 +1,171 @@
+// The checker: a sheet, a rule and three lent buffers in; one of three answers out.
+ghost use mathlib.Core.Path.{_≡_};
+ghost use Prim.Native.Nat.{_≤_};
+ghost use lib.ListN.{length};
+ghost use Rattle.lists.specs.Sets.{Wrote};
+ghost use Rattle.paper.specs.Limits.{report-size, words-size, queue-size};
+ghost use Rattle.paper.specs.Refusals.{step-count};
+ghost use Rattle.paper.specs.Report.{faults};
+ghost use Rattle.paper.specs.Answer as paper-answer;
+ghost use Rattle.sheet.specs.Loaded.{sheet-of, Loaded};
+ghost use Rattle.checker.specs.Checked.{lent, Few, refusal-text, Answered, Checked, Texted, verdict-of, rule-of, Exported};
+use paper::Answer;
+use paper::Rule;
+use report::Missing;
+use sheet::Loading;
+
+// The least lengths of the lent buffers: bytes, words of 16 bits, bytes.
+pub const REPORT_SIZE: usize = 32784;
+
+pub const WORDS_SIZE: usize = 32768;
+
+pub const QUEUE_SIZE: usize = 16385;
+
+// An answer over the C interface: 0 accepted, 1 faulty, 2 refused; the report's length; the refusal's number and line.
+#[repr(C)]
+pub struct Verdict {
+    pub answer: u8,
+    pub number: u8,
+    pub length: usize,
+    pub line: usize,
+}
+
+// The faults of loaded words, written to the start of the lent report.
+fn write_faults(rule: Rule, words: &mut [u16], queue: &mut [u8], report: &mut [u8]) -> Answer
+    requires { ⌜ Loaded (now words) × Few (now words) × (report-size ≤ length (now report)) × (words-size ≤ length (now words)) × (queue-size ≤ length (now queue)) ⌝ }
+    ensures { λ r. ⌜ Answered (paper-answer.said-of rule (faults rule (sheet-of (now (words .entry))))) (now (report .entry)) (now (words .entry)) (now (queue .entry)) (now (report .exit)) (now (words .exit)) (now (queue .exit)) r ⌝ }
+{
+    let missing = report::find_missing(words);
+    if let Missing::Found { block, place, k } = missing {
+        return report::write_missing(rule, words, report, block, place, k);
+    }
+    runs::analyze(rule, words, queue);
+    report::write_errors(rule, words, report)
+}
+
+// The answer to a sheet, where the buffers are large enough; the scratch is left as it falls.
+fn answer(
+    rule: Rule,
+    sheet: &[u8],
+    report: &mut [u8],
+    words: &mut [u16],
+    queue: &mut [u8],
+) -> Answer
+    requires { ⌜ (report-size ≤ length (now report)) × (words-size ≤ length (now words)) × (queue-size ≤ length (now queue)) ⌝ }
+    ensures { λ r. ⌜ Answered (paper-answer.answer rule (now (sheet .entry))) (now (report .entry)) (now (words .entry)) (now (queue .entry)) (now (report .exit)) (now (words .exit)) (now (queue .exit)) r ⌝ }
+{
+    let loading = sheet::load(sheet, words);
+    match loading {
+        Loading::Loaded => write_faults(rule, words, queue, report),
+        Loading::Refused(number, line) => Answer::Refused(number, line),
+    }
+}
+
+// Checks a sheet under a rule. Refusal 1 changes nothing; any other answer leaves the scratch all zero; a refusal leaves the
+// report as it was, and otherwise the report's text stands at its start and later bytes keep their values.
+pub fn check(
+    rule: Rule,
+    sheet: &[u8],
+    report: &mut [u8],
+    words: &mut [u16],
+    queue: &mut [u8],
+) -> Answer
+    ensures { λ r. ⌜ Checked rule (now (sheet .entry)) (lent (now (report .entry)) (now (words .entry)) (now (queue .entry))) (lent (now (report .exit)) (now (words .exit)) (now (queue .exit))) r ⌝ }
+{
+    if report.len() < REPORT_SIZE {
+        return Answer::Refused(1, 0);
+    }
+    if words.len() < WORDS_SIZE {
+        return Answer::Refused(1, 0);
+    }
+    if queue.len() < QUEUE_SIZE {
+        return Answer::Refused(1, 0);
+    }
+    let said = answer(rule, sheet, report, words, queue);
+    scratch::clear_words(words);
+    scratch::clear_bytes(queue);
+    said
+}
+
+// `X number line` at the start of the lent report: its length.
+fn write_refusal(report: &mut [u8], number: u8, line: usize) -> usize
+    requires { ⌜ (number ≤ 9) × (line ≤ 65537) × (report-size ≤ length (now report)) ⌝ }
+    ensures { λ r. ⌜ Wrote (now (report .entry)) 0 (refusal-text number line) (now (report .exit)) r ⌝ }
+{
+    let a = fields::write_byte(report, 0, b'X');
+    let b = fields::write_before_number(report, a, b'\t', number as u32);
+    let c = fields::write_before_number(report, b, b'\t', line as u32);
+    fields::write_byte(report, c, b'\n')
+}
+
+// What a program writes of the answer, at the start of the lent report: the report, or `X number line`. Its length is
+// returned; where refusal 1 is given nothing changes, and the length is 0.
+pub fn answer_text(
+    rule: Rule,
+    sheet: &[u8],
+    report: &mut [u8],
+    words: &mut [u16],
+    queue: &mut [u8],
+) -> usize
+    ensures { λ r. ⌜ Texted rule (now (sheet .entry)) (lent (now (report .entry)) (now (words .entry)) (now (queue .entry))) (lent (now (report .exit)) (now (words .exit)) (now (queue .exit))) r ⌝ }
+{
+    let said = check(rule, sheet, report, words, queue);
+    match said {
+        Answer::Accepted(length) => length,
+        Answer::Faulty(length) => length,
+        Answer::Refused(number, line) => {
+            if number == 1 {
+                0
+            } else {
+                write_refusal(report, number, line)
+            }
+        }
+    }
+}
+
+fn verdict_of(said: Answer) -> Verdict
+    ensures { λ r. ⌜ r ≡ verdict-of said ⌝ }
+{
+    match said {
+        Answer::Accepted(length) => Verdict {
+            answer: 0,
+            number: 0,
+            length: length,
+            line: 0,
+        },
+        Answer::Faulty(length) => Verdict {
+            answer: 1,
+            number: 0,
+            length: length,
+            line: 0,
+        },
+        Answer::Refused(number, line) => Verdict {
+            answer: 2,
+            number: number,
+            length: 0,
+            line: line,
+        },
+    }
+}
+
+fn rule_of(house: bool) -> Rule
+    ensures { λ r. ⌜ r ≡ rule-of house ⌝ }
+{
+    if house { Rule::House } else { Rule::Old }
+}
+
+// `check` for C and Rust: the house rule where `house` is true, else the old rule.
+#[no_mangle]
+pub extern "C" fn itanropen_check(
+    house: bool,
+    sheet: &[u8],
+    report: &mut [u8],
+    words: &mut [u16],
+    queue: &mut [u8],
+) -> Verdict
+    ensures { λ r. ⌜ Exported house (now (sheet .entry)) (lent (now (report .entry)) (now (words .entry)) (now (queue .entry))) (lent (now (report .exit)) (now (words .exit)) (now (queue .exit))) r ⌝ }
+{
+    let rule = rule_of(house);
+    let said = check(rule, sheet, report, words, queue);
+    verdict_of(said)
+}

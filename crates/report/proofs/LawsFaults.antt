@@ -1,0 +1,109 @@
+-- The faults found so far, when one step or one block more is checked, and how many steps there are.
+use mathlib.Core.Path.{_≡_, refl, ap}
+use mathlib.Core.Bool.{Bool}
+use mathlib.Core.List.{List, [], _∷_, _++_, append-nil, append-assoc}
+use mathlib.Core.Option.{Option, none, some}
+use Prim.Native.Nat.{ℕ, zero, suc, _+_, _≤_, _<_}
+use native.Mathlib.Nat.{add-zero}
+use native.Mathlib.Numerals.{add-one}
+use native.Mathlib.Omega.{arith}
+use lib.ListN.{length, getD}
+use Rattle.paper.specs.Text.{Name}
+use Rattle.paper.specs.Sheet.{Step, Sheet, Block, no-block, steps-of, reference-typed}
+use Rattle.paper.specs.Steps.{State, Fault, check, effect, effects}
+use Rattle.paper.specs.Refusals.{step-count}
+use Rattle.paper.specs.Report.{Line, inst-of, line-of, faults-from, by-block}
+use Rattle.paper.specs.declared.Rule.{Rule}
+use Rattle.steps.specs.Actions.{step-of, action-at, steps-at}
+use Rattle.sheet.specs.Loaded.{first-step, step-total, opened-word, block-at, blocks-at, sheet-of}
+use Rattle.report.specs.Passes.{fault-lines}
+
+-- ---- a step more
+
+pub length-steps : (words : List ℕ) (k n : ℕ) → length (steps-at words k n) ≡ n
+unfolding steps-at
+length-steps words k zero = refl
+length-steps words k (suc n) = ap suc (length-steps words (k + 1) n)
+
+steps-suc : (words : List ℕ) (k n : ℕ) → steps-at words k (suc n) ≡ steps-at words k n ++ (step-of words (action-at words (k + n)) ∷ [])
+unfolding steps-at
+steps-suc words k zero = rw add-zero
+steps-suc words k (suc n) =
+    let e : k + 1 + n ≡ k + suc n = omega arith in
+    ap (λ t. step-of words (action-at words k) ∷ t) (rw e at (steps-suc words (k + 1) n))
+
+pub steps-more : (words : List ℕ) (k n : ℕ) → steps-at words k (n + 1) ≡ steps-at words k n ++ (step-of words (action-at words (k + n)) ∷ [])
+steps-more words k n = rw add-one (steps-suc words k n)
+
+module _ (rule : Rule) (ref : Name → Bool) (x : Step) where
+  pub effects-more : (xs : List Step) (s : State) → effects rule ref (xs ++ (x ∷ [])) s ≡ effect rule ref x (effects rule ref xs s)
+  unfolding effects
+  effects-more [] s = refl
+  effects-more (y ∷ xs) s = effects-more xs (effect rule ref y s)
+
+lined : (b place : ℕ) (x : Step) (o : Option Fault) → line-of b place x o ≡ fault-lines b place (inst-of x) o
+unfolding line-of fault-lines
+lined b place x none = refl
+lined b place x (some fault) = refl
+
+module _ (rule : Rule) (S : Sheet) (b : ℕ) (x : Step) where
+  pub faults-more : (place : ℕ) (xs : List Step) (s : State)
+      → faults-from rule S b place (xs ++ (x ∷ [])) s
+      ≡ faults-from rule S b place xs s ++ fault-lines b (place + length xs) (inst-of x) (check x (effects rule (reference-typed S) xs s))
+  unfolding faults-from effects
+  faults-more place [] s = rw (add-zero, append-nil) (lined b place x _)
+  faults-more place (y ∷ xs) s =
+      let e : suc place + length xs ≡ place + suc (length xs) = omega arith in
+      rw append-assoc (ap (λ t. line-of b place y (check y s) ++ t) (rw e at (faults-more (suc place) xs (effect rule (reference-typed S) y s))))
+
+-- ---- a block more
+
+by-block-suc : (f : ℕ → List Line) (b n : ℕ) → by-block f b (suc n) ≡ by-block f b n ++ f (b + n)
+unfolding by-block
+by-block-suc f b zero = rw (add-zero, append-nil)
+by-block-suc f b (suc n) =
+    let e : suc b + n ≡ b + suc n = omega arith in
+    rw append-assoc (ap (λ t. f b ++ t) (rw e at (by-block-suc f (suc b) n)))
+
+pub by-block-more : (f : ℕ → List Line) (n : ℕ) → by-block f 0 (n + 1) ≡ by-block f 0 n ++ f n
+by-block-more f n = let e : 0 + n ≡ n = omega arith in rw add-one (rw e at (by-block-suc f 0 n))
+
+block-in : (words : List ℕ) (b i n : ℕ) → i < n → getD (blocks-at words b n) i no-block ≡ block-at words (b + i)
+unfolding blocks-at
+block-in words b i zero h = absurd (omega arith)
+block-in words b zero (suc n) h = rw add-zero
+block-in words b (suc i) (suc n) h =
+    let e : b + 1 + i ≡ b + suc i = omega arith in
+    rw e at (block-in words (b + 1) i n (omega arith))
+
+-- the steps of a block stand in the words
+pub steps-in : (words : List ℕ) (b : ℕ) → b < getD words opened-word 0
+    → steps-of (sheet-of words) b ≡ steps-at words (first-step words b) (step-total words b)
+unfolding sheet-of block-at
+steps-in words b h =
+    let e : 0 + b ≡ b = omega arith in
+    ap (λ (B : Block). B .steps) (rw e at (block-in words 0 b (getD words opened-word 0) h))
+
+-- ---- how many steps
+
+one-block : (words : List ℕ) (b : ℕ) → length ((block-at words b) .steps) ≡ step-total words b
+unfolding block-at
+one-block words b = length-steps words (first-step words b) (step-total words b)
+
+-- the steps of the n blocks from b on
+abbrev pub count-from : List ℕ → ℕ → ℕ → ℕ
+count-from words b n = step-count (blocks-at words b n)
+
+pub count-more : (words : List ℕ) (b n : ℕ) → count-from words b (suc n) ≡ count-from words b n + step-total words (b + n)
+unfolding step-count blocks-at
+count-more words b zero = let e : b + 0 ≡ b = omega arith in rw (e, one-block) (omega arith)
+count-more words b (suc n) =
+    let e : b + 1 + n ≡ b + suc n = omega arith in
+    omega (arith, rw e at (count-more words (b + 1) n))
+
+-- no more before a block's end than in all
+pub count-below : (words : List ℕ) (b k n : ℕ) → k ≤ n → count-from words b k ≤ count-from words b n
+unfolding step-count blocks-at
+count-below words b zero n h = omega arith
+count-below words b (suc k) zero h = absurd (omega arith)
+count-below words b (suc k) (suc n) h = omega (arith, count-below words (b + 1) k n (omega arith))

@@ -1,0 +1,175 @@
+use mathlib.Core.Path.{_≡_, refl}
+use Prim.Native.Nat.{_+_, _*_, _-_, _≤_}
+use native.Mathlib.Omega.{arith}
+use lib.ListN.{length, getD}
+use Rattle.steps.specs.Laws.{in-range-32}
+use Rattle.steps.specs.Actions.{action-at, InRange}
+use Rattle.sheet.specs.Loaded.{regs-word, slots-word, step-total}
+use Rattle.report.proofs.LawsErrors.{error-within}
+use Rattle.report.proofs.LawsBlock.{SoFar, BlockWithin, block-within, in-range-at, honest-at, so-far-none, so-far-all, so-far-more}
+use borrow.Author.Needs.{needs}
+use Rattle.report.proofs.check_block.Statement.{statement}
+use Rattle.report.proofs.check_block.Tie as tie
+
+abbrev Inv-loop : tie.InvT-loop
+Inv-loop pass rule words report₀ at block regs slots base first count t₀ next₀ place₀ report t next place =
+    (place ≤ count) × (next ≤ at + 32 * place) × (length report ≡ length report₀) × SoFar pass rule words block place t report₀ at report next
+
+abbrev μ-loop : tie.MeasureT-loop
+μ-loop pass rule words report₀ at block regs slots base first count t₀ next₀ place₀ report t next place =
+    count - place
+
+within : (c : tie.Start Inv-loop μ-loop) → BlockWithin (c .args .words .now) (c .args .block)
+within c = block-within (c .pre .0 .loaded) (c .pre .1)
+
+-- the step's numbers are below the counts
+ranged : (c : tie.After-action-at Inv-loop μ-loop)
+    → let s = c .before .before .before .before .before .before .before .before .before .before in
+    InRange (getD (s .args .words .now) regs-word 0) (getD (s .args .words .now) slots-word 0) (s .args .words .now) (c .action-at .result)
+ranged c =
+    let s = c .before .before .before .before .before .before .before .before .before .before in
+    rw (c .action-at .ensures) (in-range-at (s .pre .0) (s .pre .1) _ (omega arith))
+
+ranged-32 : (c : tie.After-action-at Inv-loop μ-loop)
+    → InRange 32 32 (c .before .before .before .before .before .before .before .before .before .before .args .words .now) (c .action-at .result)
+ranged-32 c =
+    let s = c .before .before .before .before .before .before .before .before .before .before in
+    let w = within s in
+    in-range-32 (getD (s .args .words .now) regs-word 0) (getD (s .args .words .now) slots-word 0) (s .args .words .now) (c .action-at .result) (w .regs) (w .slots) (ranged c)
+
+shared-slice-read-regs : tie.Need-shared-slice-read-regs Inv-loop μ-loop
+shared-slice-read-regs c = omega (arith, within (c .before .before .before))
+
+cast-regs : tie.Need-cast-regs Inv-loop μ-loop
+cast-regs c = omega (arith, within (c .before .before .before))
+
+shared-slice-read-slots : tie.Need-shared-slice-read-slots Inv-loop μ-loop
+shared-slice-read-slots c = omega (arith, within (c .before .before .before .before))
+
+cast-slots : tie.Need-cast-slots Inv-loop μ-loop
+cast-slots c = omega (arith, within (c .before .before .before .before))
+
+mul-base : tie.Need-mul-base Inv-loop μ-loop
+mul-base c = search needs
+
+add-base : tie.Need-add-base Inv-loop μ-loop
+add-base c = search needs
+
+mul-first : tie.Need-mul-first Inv-loop μ-loop
+mul-first c = search needs
+
+shared-slice-read-first : tie.Need-shared-slice-read-first Inv-loop μ-loop
+shared-slice-read-first c = omega (arith, within (c .before .before .before .before .before))
+
+cast-first : tie.Need-cast-first Inv-loop μ-loop
+cast-first c = omega (arith, within (c .before .before .before .before .before))
+
+add-count : tie.Need-add-count Inv-loop μ-loop
+add-count c = omega (arith, within (c .before .before .before .before .before))
+
+mul-count : tie.Need-mul-count Inv-loop μ-loop
+mul-count c = search needs
+
+shared-slice-read-count : tie.Need-shared-slice-read-count Inv-loop μ-loop
+shared-slice-read-count c = omega (arith, within (c .before .before .before .before .before .before))
+
+cast-count : tie.Need-cast-count Inv-loop μ-loop
+cast-count c = omega (arith, within (c .before .before .before .before .before .before))
+
+mul-load : tie.Need-mul-load Inv-loop μ-loop
+mul-load c = search needs
+
+add-load : tie.Need-add-load Inv-loop μ-loop
+add-load c = search needs
+
+load-requires : tie.Need-load-requires Inv-loop μ-loop
+load-requires c κs = let w = within (c .before .before .before .before .before .before) in
+    (omega arith, w .regs, w .slots)
+
+loop-holds : tie.Need-loop-holds Inv-loop μ-loop
+loop-holds c = let s = c .before .before .before .before .before .before .before in
+    (omega arith, omega arith, refl, so-far-none (s .pre .0) (s .pre .1) _ _ _ _ (c .load .ensures))
+
+add-action-at : tie.Need-add-action-at Inv-loop μ-loop
+add-action-at c = omega (arith, within (c .before .before .before .before .before .before .before .before .before))
+
+action-at-requires : tie.Need-action-at-requires Inv-loop μ-loop
+action-at-requires c κs = let w = within (c .before .before .before .before .before .before .before .before .before) in
+    (omega arith, omega arith)
+
+check-requires : tie.Need-check-requires Inv-loop μ-loop
+check-requires c κs = ranged-32 c
+
+inst-of-requires : tie.Need-inst-of-requires Inv-loop μ-loop
+inst-of-requires c κs = search needs
+
+note-requires : tie.Need-note-requires Inv-loop μ-loop
+note-requires c κs = let a = c .before .before .before in
+    let w = within (a .before .before .before .before .before .before .before .before .before .before) in
+    (omega arith, omega arith, error-within _ (a .action-at .result) _ _ (ranged-32 a) (c .before .before .check .ensures _ _ (ranged a)), omega arith)
+
+update-requires : tie.Need-update-requires Inv-loop μ-loop
+update-requires c κs = let a = c .before .before .before .before .before .before in
+    let w = within (a .before .before .before .before .before .before .before .before .before .before) in
+    (w .regs, w .slots, ranged a)
+
+add-place : tie.Need-add-place Inv-loop μ-loop
+add-place c = omega (arith, within (c .before .before .before .before .before .before .before .before .before .before .before .before .before .before .before .before .before))
+
+loop-less : tie.Need-loop-less Inv-loop μ-loop
+loop-less c = omega arith
+
+loop-again : tie.Need-loop-again Inv-loop μ-loop
+loop-again c = let n = c .before .before .before in
+    let a = n .before .before .before .before in
+    let s = a .before .before .before .before .before .before .before .before .before .before in
+    let l = a .before .before in (
+      omega arith,
+      omega arith,
+      omega arith,
+      so-far-more _ _ _ (a .action-at .ensures) (n .before .before .before .check .ensures _ _ (ranged a)) (n .before .inst-of .ensures _)
+          (c .update .ensures _ (rw (a .action-at .ensures) (honest-at (s .pre .0) (s .pre .1) _ (omega arith)))) (l .loop .inv .3) (n .note .ensures .0),
+    )
+
+same-length : tie.Need-same-length Inv-loop μ-loop
+same-length c = search needs
+
+returns : tie.Need-returns Inv-loop μ-loop
+returns c = let s = c .before .before .before .before .before .before .before .before .before in
+    let e : c .before .loop .place ≡ step-total (s .args .words .now) (s .args .block) = omega arith in
+    (so-far-all (s .pre .0) (s .pre .1) (rw e at (c .before .loop .inv .3)), omega arith)
+
+pub check-block-spec : {M : Type 1} → statement M
+check-block-spec =
+    tie.close
+    (tie.spec
+    Inv-loop
+    μ-loop
+    shared-slice-read-regs
+    cast-regs
+    shared-slice-read-slots
+    cast-slots
+    mul-base
+    add-base
+    mul-first
+    shared-slice-read-first
+    cast-first
+    add-count
+    mul-count
+    shared-slice-read-count
+    cast-count
+    mul-load
+    add-load
+    load-requires
+    loop-holds
+    add-action-at
+    action-at-requires
+    check-requires
+    inst-of-requires
+    note-requires
+    update-requires
+    add-place
+    loop-less
+    loop-again
+    same-length
+    returns)

@@ -1,0 +1,51 @@
+use native.Mathlib.Omega.{arith}
+use Rattle.lists.specs.Sets.{then}
+use Rattle.paper.specs.Report.{behind-tabs}
+use Rattle.report.specs.Lines.{header-text}
+use Rattle.report.proofs.LawsLines.{header-room}
+use borrow.Author.Needs.{needs}
+use Rattle.report.proofs.write_header.Statement.{statement}
+use Rattle.report.proofs.write_header.Tie as tie
+
+write-byte-requires : tie.Need-write-byte-requires
+write-byte-requires c κs = omega (arith, header-room _ _ _ _ (c .before .before .pre .1))
+
+write-byte-requires-2 : tie.Need-write-byte-requires-2
+write-byte-requires-2 c κs = omega (arith, header-room _ _ _ _ (c .before .before .before .before .before .before .pre .1))
+
+write-rule-requires : tie.Need-write-rule-requires
+write-rule-requires c κs = omega (arith, header-room _ _ _ _ (c .before .before .before .before .before .before .before .before .before .before .pre .1))
+
+cast-write-before-number : tie.Need-cast-write-before-number
+cast-write-before-number c = omega arith
+
+write-before-number-requires : tie.Need-write-before-number-requires
+write-before-number-requires c κs = omega (arith, header-room _ _ _ _ (c .before .before .before .before .before .before .before .before .before .before .before .before .before .before .pre .1))
+
+write-byte-requires-3 : tie.Need-write-byte-requires-3
+write-byte-requires-3 c κs = omega (arith, header-room _ _ _ _ (c .before .before .before .before .before .before .before .before .before .before .before .before .before .before .before .before .before .before .pre .1))
+
+same-length : tie.Need-same-length
+same-length c = search needs
+
+returns : tie.Need-returns
+unfolding behind-tabs header-text
+returns c = let w5 = c .before .before in
+    let w4 = w5 .before .before .before .before in
+    let w3 = w4 .before .before .before .before in
+    let w2 = w3 .before .before .before .before in
+    let w1 = w2 .before .before .before .before in
+    then (w1 .write-byte .ensures) (then (w2 .write-byte2 .ensures) (then (w3 .write-rule .ensures) (then (w4 .write-before-number .ensures) (w5 .write-byte3 .ensures))))
+
+pub write-header-spec : {M : Type 1} → statement M
+write-header-spec =
+    tie.close
+    (tie.spec
+    write-byte-requires
+    write-byte-requires-2
+    write-rule-requires
+    cast-write-before-number
+    write-before-number-requires
+    write-byte-requires-3
+    same-length
+    returns)

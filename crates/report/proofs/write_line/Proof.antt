@@ -1,0 +1,55 @@
+use native.Mathlib.Omega.{arith}
+use Rattle.lists.specs.Sets.{then}
+use Rattle.paper.specs.Report.{behind-tabs}
+use Rattle.report.specs.Lines.{fields-line}
+use Rattle.report.proofs.LawsLines.{line-room}
+use borrow.Author.Needs.{needs}
+use Rattle.report.proofs.write_line.Statement.{statement}
+use Rattle.report.proofs.write_line.Tie as tie
+
+write-byte-requires : tie.Need-write-byte-requires
+write-byte-requires c κs = omega (arith, line-room _ _ _ _ _ _ (c .before .before .pre .2))
+
+cast-write-before-number : tie.Need-cast-write-before-number
+cast-write-before-number c = omega arith
+
+write-before-number-requires : tie.Need-write-before-number-requires
+write-before-number-requires c κs = omega (arith, line-room _ _ _ _ _ _ (c .before .before .before .before .before .before .pre .2))
+
+cast-write-before-number-2 : tie.Need-cast-write-before-number-2
+cast-write-before-number-2 c = omega arith
+
+write-before-number-requires-2 : tie.Need-write-before-number-requires-2
+write-before-number-requires-2 c κs = omega (arith, line-room _ _ _ _ _ _ (c .before .before .before .before .before .before .before .before .before .before .pre .2))
+
+write-before-number-requires-3 : tie.Need-write-before-number-requires-3
+write-before-number-requires-3 c κs = omega (arith, line-room _ _ _ _ _ _ (c .before .before .before .before .before .before .before .before .before .before .before .before .before .before .pre .2))
+
+write-fields-requires : tie.Need-write-fields-requires
+write-fields-requires c κs = omega (arith, line-room _ _ _ _ _ _ (c .before .before .before .before .before .before .before .before .before .before .before .before .before .before .before .before .before .before .pre .2))
+
+same-length : tie.Need-same-length
+same-length c = search needs
+
+returns : tie.Need-returns
+unfolding behind-tabs fields-line
+returns c = let w5 = c .before .before in
+    let w4 = w5 .before .before .before .before in
+    let w3 = w4 .before .before .before .before in
+    let w2 = w3 .before .before .before .before in
+    let w1 = w2 .before .before .before .before in
+    then (w1 .write-byte .ensures) (then (w2 .write-before-number .ensures) (then (w3 .write-before-number2 .ensures) (then (w4 .write-before-number3 .ensures) (w5 .write-fields .ensures))))
+
+pub write-line-spec : {M : Type 1} → statement M
+write-line-spec =
+    tie.close
+    (tie.spec
+    write-byte-requires
+    cast-write-before-number
+    write-before-number-requires
+    cast-write-before-number-2
+    write-before-number-requires-2
+    write-before-number-requires-3
+    write-fields-requires
+    same-length
+    returns)

@@ -1,0 +1,6 @@
+pub mod Lines
+pub mod Passes
+pub mod Missing
+pub mod Reported
+pub mod Outcome
+pub mod Few

@@ -1,0 +1,97 @@
+-- The run as it begins: every block filled, then the entry.
+use mathlib.Core.Path.{_≡_, refl, sym, ap, subst, _∙_}
+use mathlib.Core.List.{List, [], _∷_, _++_}
+use Prim.Native.Nat.{ℕ, _+_, _≤_, _<_}
+use native.Mathlib.Omega.{arith}
+use lib.ListN.{getD, set}
+use Rattle.lists.specs.Kept.{kept-same, kept-then}
+use Rattle.paper.specs.Sheet.{Sheet}
+use Rattle.paper.specs.Steps.{entry-state, unreached-state}
+use Rattle.paper.specs.Runs.{before, begin, entered}
+use Rattle.paper.specs.declared.Rule.{Rule}
+use Rattle.paper.specs.declared.Rule.the-variants.{Old, House}
+use Rattle.cells.specs.States.{state-of, Stored}
+use Rattle.steps.specs.Layout.{most-blocks}
+use Rattle.sheet.specs.Loaded.{regs-word, slots-word, blocks-word, entry-word, sheet-of}
+use Rattle.runs.specs.Layout.{state-at, mark-at, RunKept, counts-of}
+use Rattle.runs.specs.Queue.{Appended}
+use Rattle.runs.specs.Table.{Ready, Holds, mark-of, Tabled, Tables, Entered}
+use Rattle.runs.specs.Stands.{Begins}
+use Rattle.runs.specs.declared.Ring.{Ring}
+use Rattle.runs.proofs.LawsQueue.{none-held}
+use Rattle.runs.proofs.LawsTable.{Alone, alone-both, blocks-are, narrow, holds-stays, tabled-alone, state-marked, mark-set}
+
+-- what a block that nothing came to is checked from
+entered-before : (rule : Rule) (S : Sheet) (b : ℕ) → entered rule S (before rule S b) ≡ unreached-state rule S
+unfolding entered before
+entered-before Old S b = refl
+entered-before House S b = refl
+
+-- the first b blocks are filled
+pub record Filled (rule : Rule) (words₀ words : List ℕ) (b : ℕ) : Type 0 where
+  pub past : b ≤ getD words₀ blocks-word 0
+  pub kept : RunKept words₀ words
+  pub tabled : Tabled rule (sheet-of words₀) b words (before rule (sheet-of words₀))
+
+pub filled-none : {rule : Rule} {words : List ℕ} → Filled rule words words 0
+filled-none = record { past = omega arith; kept = kept-same _ _ _; tabled = record { states = λ b h. absurd (omega arith); marks = λ b h. absurd (omega arith) } }
+
+pub sheet-here : {words : List ℕ} → Ready words → Holds (sheet-of words) words
+sheet-here r = record { ready = r; is = refl }
+
+module _ {rule : Rule} {words₀ words : List ℕ} {b : ℕ} (ready : Ready words₀) (f : Filled rule words₀ words b) where
+  pub filled-holds : Holds (sheet-of words₀) words
+  filled-holds = holds-stays (f .kept) (sheet-here ready)
+
+  pub filled-more : {words₁ : List ℕ} {s : List (List ℕ)} {regs slots : ℕ} (v : ℕ) → b < getD words₀ blocks-word 0
+      → regs ≡ getD words₀ regs-word 0 → slots ≡ getD words₀ slots-word 0
+      → Stored (regs ∷ slots ∷ []) (state-at b) s words words₁
+      → ((S : Sheet) → S .regs ≤ 32 → S .slots ≤ 32 → state-of (counts-of S) s ≡ unreached-state rule S)
+      → ((S : Sheet) (k : ℕ) → v ≡ mark-of (before rule S k))
+      → Filled rule words₀ (set words₁ (mark-at b) v) (b + 1)
+  filled-more {words₁} {s} v h er es stored unreached mark = record {
+    past = omega arith;
+    kept = kept-then _ _ (f .kept) (alone .kept) (omega arith) (omega arith) (omega arith) (omega arith);
+    tabled =
+        tabled-alone filled-holds alone (omega (arith, ready .loaded .bounds .blocks))
+        (state-marked filled-holds b v small stored′ ∙ unreached (sheet-of words₀) (narrow filled-holds .0) (narrow filled-holds .1 .0) ∙ sym (entered-before rule (sheet-of words₀) b))
+        (mark-set filled-holds b v small stored′ ∙ mark (sheet-of words₀) b)
+        (λ k l d. (omega arith, refl))
+        (f .tabled);
+  }
+    where
+      small : b < most-blocks
+      small = omega (arith, ready .loaded .bounds .blocks)
+
+      alone : Alone b words (set words₁ (mark-at b) v)
+      alone = alone-both b small (stored .kept) v
+
+      stored′ : Stored (getD words regs-word 0 ∷ getD words slots-word 0 ∷ []) (state-at b) s words words₁
+      stored′ = rw (f .kept .below regs-word (omega arith), f .kept .below slots-word (omega arith), ← er, ← es) stored
+
+  -- all are
+  pub filled-all : getD words₀ blocks-word 0 ≤ b → Tables rule (sheet-of words₀) words (before rule (sheet-of words₀))
+  filled-all h = record {
+    sheet = filled-holds;
+    tabled =
+        let e : b ≡ (sheet-of words₀) .blocks = omega (arith, f .past, blocks-are (sheet-here ready)) in
+        subst (λ (n : ℕ). Tabled rule (sheet-of words₀) n words (before rule (sheet-of words₀))) e (f .tabled);
+  }
+
+-- the entry has its state and waits
+pub begun : {rule : Rule} {words₀ words words′ queue queue′ : List ℕ} {ring : Ring} {s : List (List ℕ)} → Ready words₀ → RunKept words₀ words
+    → Tables rule (sheet-of words₀) words (before rule (sheet-of words₀))
+    → Entered (getD words₀ entry-word 0) s words words′
+    → ((S : Sheet) → S .regs ≡ getD words₀ regs-word 0 → S .slots ≤ 32 → state-of (counts-of S) s ≡ entry-state rule S)
+    → Appended queue (record { head = 0; count = 0 }) (getD words₀ entry-word 0) queue′ ring
+    → Begins rule words₀ queue words′ queue′ ring
+unfolding begin sheet-of
+begun {rule} {words₀} {queue = queue} ready kept tables entered first app = record {
+  kept = kept-then _ _ kept (entered .kept) (omega arith) (omega arith) (omega arith) (omega arith);
+  same-length = app .same-length;
+  stands = record {
+    tables = rw (first (sheet-of words₀) refl (narrow (sheet-here ready) .1 .0)) at (entered .tables rule (sheet-of words₀) _ tables);
+    sound = app .sound;
+    waiting = app .holds ∙ ap (λ (l : List ℕ). l ++ (getD words₀ entry-word 0 ∷ [])) (none-held queue 0);
+  };
+}

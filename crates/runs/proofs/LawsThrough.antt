@@ -1,0 +1,31 @@
+-- What a block makes of the state that it holds.
+use mathlib.Core.Path.{_≡_, sym, ap, subst, _∙_}
+use mathlib.Core.Bool.{Bool}
+use mathlib.Core.List.{List, [], _∷_}
+use Prim.Native.Nat.{ℕ, _<_}
+use lib.ListN.{getD}
+use Rattle.paper.specs.Text.{Name}
+use Rattle.paper.specs.Sheet.{Sheet, steps-of, reference-typed}
+use Rattle.paper.specs.Steps.{effects}
+use Rattle.paper.specs.declared.Rule.{Rule}
+use Rattle.cells.specs.States.{state-of, stored-state}
+use Rattle.steps.specs.Actions.{steps-at, HonestSteps}
+use Rattle.sheet.specs.Loaded.{regs-word, slots-word, blocks-word, first-step, step-total, sheet-of}
+use Rattle.runs.specs.Layout.{state-at, counts-of, held-state}
+use Rattle.runs.specs.Sheets.{steps-in-words}
+use Rattle.runs.specs.Allowed.{loaded-honest}
+use Rattle.runs.specs.Table.{Ready, Through}
+
+pub through-is : {rule : Rule} {words : List ℕ} {b : ℕ} (s : List (List ℕ)) {t : List (List ℕ)} → Ready words → b < getD words blocks-word 0
+    → state-of (getD words regs-word 0 ∷ getD words slots-word 0 ∷ []) s ≡ stored-state (getD words regs-word 0 ∷ getD words slots-word 0 ∷ []) (state-at b) words
+    → ((ref : Name → Bool) → HonestSteps ref words (first-step words b) (step-total words b)
+    → state-of (getD words regs-word 0 ∷ getD words slots-word 0 ∷ []) t ≡ effects rule ref (steps-at words (first-step words b) (step-total words b)) (state-of (getD words regs-word 0 ∷ getD words slots-word 0 ∷ []) s))
+    → Through rule b words t
+through-is {rule} {words} {b} s {t} ready h loaded ran = record { is = λ S e. subst (λ (S : Sheet). state-of (counts-of S) t ≡ effects rule (reference-typed S) (steps-of S b) (held-state S words b)) (e .is) here }
+  where
+    here : state-of (counts-of (sheet-of words)) t ≡ effects rule (reference-typed (sheet-of words)) (steps-of (sheet-of words) b) (held-state (sheet-of words) words b)
+    here =
+        unfold sheet-of in
+        (ran (reference-typed (sheet-of words)) (loaded-honest (ready .loaded) b h)
+        ∙ ap (effects rule (reference-typed (sheet-of words)) (steps-at words (first-step words b) (step-total words b))) loaded
+        ∙ ap (λ xs. effects rule (reference-typed (sheet-of words)) xs (held-state (sheet-of words) words b)) (sym (steps-in-words words b (rw (ready .loaded .whole) h))))

@@ -1,0 +1,176 @@
+-- A visit: its block is a block with a state, there is room for each successor that comes to wait, and at the end one step of the
+-- run is done.
+use mathlib.Core.Path.{_≡_, refl, sym, ap, subst, _∙_}
+use mathlib.Core.List.{List, [], _∷_, _++_}
+use mathlib.Core.Option.{some}
+use Prim.Native.Nat.{ℕ, _+_, _*_, _-_, _≤_, _<_}
+use native.Mathlib.Nat.{mul-le-mul-right}
+use native.Mathlib.Omega.{arith}
+use lib.ListN.{length, getD}
+use Rattle.lists.specs.Region.{region}
+use Rattle.lists.specs.Grown.{region-more, region-joined}
+use Rattle.lists.specs.Kept.{kept-same, kept-then}
+use Rattle.paper.specs.Sheet.{Sheet, succs-of, steps-of, reference-typed}
+use Rattle.paper.specs.Steps.{State, effects}
+use Rattle.paper.specs.Runs.{Run, push, spread, visit-at, step-at, step, flow, visit-bound}
+use Rattle.paper.specs.Report.{missing-allocations}
+use Rattle.paper.specs.Limits.{max-succs, queue-size}
+use Rattle.paper.specs.Walks.{In, here}
+use Rattle.paper.specs.declared.Rule.{Rule}
+use Rattle.paper.specs.declared.Rule.the-variants.{Old, House}
+use Rattle.walks.specs.Loop.{standing-room, standing-below, standing-inside}
+use Rattle.cells.specs.States.{state-of}
+use Rattle.steps.specs.Layout.{most-blocks, state-base, all-words}
+use Rattle.sheet.specs.Loaded.{blocks-word, opened-word, succ-total, succ-base, sheet-of, BlockBounds}
+use Rattle.runs.specs.Sheets.{succs-in-words}
+use Rattle.runs.specs.Layout.{mark-at, counts-of, held-state}
+use Rattle.runs.specs.Queue.{held, Sound, Taken}
+use Rattle.runs.specs.Table.{Ready, Holds, mark-of, Through}
+use Rattle.runs.specs.Stands.{Stands, Continues, Moved}
+use Rattle.runs.specs.declared.Ring.{Ring}
+use Rattle.runs.proofs.LawsQueue.{length-held}
+use Rattle.runs.proofs.LawsTable.{marked, blocks-are, few-blocks, narrow, ready-stays}
+
+-- one successor more
+spread-more : (rule : Rule) (S : Sheet) (ss : List ℕ) (s : ℕ) (x : State) (r : Run State) → spread (flow rule S) (ss ++ (s ∷ [])) x r ≡ push (flow rule S) s x (spread (flow rule S) ss x r)
+unfolding spread
+spread-more rule S [] s x r = refl
+spread-more rule S (c ∷ ss) s x r = spread-more rule S ss s x (push (flow rule S) c x r)
+
+-- inside a visit, whose block has its successors from `from` on: the first i have been served
+pub record Serving (rule : Rule) (words₀ queue₀ : List ℕ) (ring₀ : Ring) (s : List (List ℕ)) (from total : ℕ) (words queue : List ℕ) (ring : Ring) (i : ℕ) : Type 0 where
+  pub past : i ≤ total
+  pub moved : Moved rule words₀ queue₀ ring₀ words queue ring (λ S. spread (flow rule S) (region from i words₀) (state-of (counts-of S) s))
+
+pub serving-none : {rule : Rule} {words queue : List ℕ} {ring : Ring} {s : List (List ℕ)} {from total : ℕ} → Serving rule words queue ring s from total words queue ring 0
+unfolding spread region
+serving-none = record { past = omega arith; moved = record { kept = kept-same _ _ _; same-length = refl; stands = λ S r h. h } }
+
+pub serving-more : {rule : Rule} {words₀ queue₀ : List ℕ} {ring₀ : Ring} {s : List (List ℕ)} {from total : ℕ} {words queue : List ℕ} {ring : Ring} {i : ℕ} {words′ queue′ : List ℕ} {ring′ : Ring}
+    → Serving rule words₀ queue₀ ring₀ s from total words queue ring i → i < total → from + total ≤ state-base → from + total ≤ length words₀
+    → Moved rule words queue ring words′ queue′ ring′ (λ S. push (flow rule S) (getD words (from + i) 0) (state-of (counts-of S) s))
+    → Serving rule words₀ queue₀ ring₀ s from total words′ queue′ ring′ (i + 1)
+serving-more {rule} {words₀} {s = s} {from = from} {i = i} g l low fits m = record {
+  past = omega arith;
+  moved = record {
+    kept = kept-then _ _ (g .moved .kept) (m .kept) (omega arith) (omega arith) (omega arith) (omega arith);
+    same-length = m .same-length ∙ g .moved .same-length;
+    stands = λ S r h.
+        rw (region-more from i words₀ (omega arith), spread-more rule S (region from i words₀) (getD words₀ (from + i) 0) (state-of (counts-of S) s) r, ← g .moved .kept .below (from + i) (omega arith))
+        (m .stands S _ (g .moved .stands S r h));
+  };
+}
+
+-- the visit bound of a loaded sheet fits the queue
+pub bound-fits : (rule : Rule) {S : Sheet} {words : List ℕ} → Holds S words → visit-bound rule S ≤ queue-size
+unfolding visit-bound
+bound-fits Old {S} h =
+    let e : S .blocks * (4 * (S .regs + S .slots)) ≤ most-blocks * (4 * (S .regs + S .slots)) = mul-le-mul-right _ (few-blocks h) in
+    let n = narrow h in
+    omega (arith, n .0, n .1 .0)
+bound-fits House {S} h =
+    let e : S .blocks * (1 + 3 * (S .regs + S .slots)) ≤ most-blocks * (1 + 3 * (S .regs + S .slots)) = mul-le-mul-right _ (few-blocks h) in
+    let n = narrow h in
+    omega (arith, n .0, n .1 .0)
+
+-- a step, where the first block that waits and its state are known
+step-is : (rule : Rule) (S : Sheet) (r : Run State) (b : ℕ) (queue : List ℕ) (a : State) → r .queue ≡ b ∷ queue → r .table b ≡ some a
+    → step (flow rule S) r ≡ spread (flow rule S) (succs-of S b) (effects rule (reference-typed S) (steps-of S b) a) (record { table = r .table; queue = queue })
+unfolding step step-at visit-at flow
+step-is rule S r b queue a e f = rw (e, f)
+
+-- where the visited block's numbers stand, and how many successors it has
+pub record Visiting (words : List ℕ) (b : ℕ) : Type 0 where
+  pub small : b < most-blocks
+  pub succs : succ-total words b ≤ max-succs
+  pub size : all-words ≤ length words
+
+-- the block that waits longest
+abbrev first-of : List ℕ → Ring → ℕ
+first-of queue ring = getD queue (ring .head) 0
+
+module _ {rule : Rule} {words queue : List ℕ} {ring ring₁ : Ring} (c : Continues rule words queue ring) (taken : Taken queue ring ring₁) where
+  first-waits : (c .at) .queue ≡ first-of queue ring ∷ held queue ring₁
+  first-waits = sym (c .running .stands .waiting) ∙ taken .holds
+
+  first-in : In (first-of queue ring) ((c .at) .queue)
+  first-in = subst (In (first-of queue ring)) (sym first-waits) (here refl)
+
+  first-here : first-of queue ring < c .sheet .blocks
+  first-here = standing-below rule _ _ (c .running .standing) (first-of queue ring) first-in
+
+  -- it is a block, and visited
+  pub first-below : getD queue (ring .head) 0 < getD words blocks-word 0
+  first-below = rw (← blocks-are (c .running .stands .tables .sheet)) first-here
+
+  first-marked : getD words (mark-at (first-of queue ring)) 0 ≡ 0 → ⊥
+  unfolding mark-of
+  first-marked e =
+      let v = c .running .seen .each (first-of queue ring) first-in in
+      let m : _≡_ {A = ℕ} 0 1 = sym e ∙ c .running .stands .tables .tabled .marks (first-of queue ring) first-here ∙ ap mark-of (v .holds) in
+      omega arith
+
+  pub still-allocated : missing-allocations (sheet-of words) ≡ []
+  still-allocated = ap missing-allocations (c .running .stands .tables .sheet .is) ∙ c .running .allocated
+
+  module _ (S : Sheet) (r : Run State) (h : Stands rule S words queue ring r) where
+    first-state : r .table (first-of queue ring) ≡ some (held-state S words (first-of queue ring))
+    first-state =
+        let l : first-of queue ring < S .blocks = rw (blocks-are (h .tables .sheet)) first-below in
+        marked rule S (r .table (first-of queue ring)) (λ e. first-marked (h .tables .tabled .marks (first-of queue ring) l ∙ e)) ∙ ap some (sym (h .tables .tabled .states (first-of queue ring) l))
+
+    rest-stands : Stands rule S words queue ring₁ (record { table = r .table; queue = held queue ring₁ })
+    rest-stands = record { tables = h .tables; sound = taken .sound; waiting = refl }
+
+  first-opened : first-of queue ring < getD words opened-word 0
+  first-opened = rw (c .running .stands .tables .sheet .ready .loaded .whole) first-below
+
+  -- its successors, as its words have them
+  first-succs : (S : Sheet) → Holds S words → succs-of S (first-of queue ring) ≡ region (succ-base (first-of queue ring)) (succ-total words (first-of queue ring)) words
+  first-succs S h = ap (λ (s : Sheet). succs-of s (first-of queue ring)) (sym (h .is)) ∙ succs-in-words words (first-of queue ring) first-opened
+
+  first-bounds : BlockBounds words (first-of queue ring)
+  first-bounds = c .running .stands .tables .sheet .ready .loaded .bounds .each-block (first-of queue ring) first-opened
+
+  pub visiting : Visiting words (getD queue (ring .head) 0)
+  visiting =
+      let L = c .running .stands .tables .sheet .ready .loaded .bounds in
+      record { small = omega (arith, first-below, L .blocks); succs = first-bounds .succs; size = L .size }
+
+  module _ {s : List (List ℕ)} {words′ queue′ : List ℕ} {ring′ : Ring} {i : ℕ} (through : Through rule (first-of queue ring) words s)
+      (g : Serving rule words queue ring₁ s (succ-base (first-of queue ring)) (succ-total words (first-of queue ring)) words′ queue′ ring′ i) where
+    serving-stands : Stands rule (c .sheet) words′ queue′ ring′ (spread (flow rule (c .sheet)) (region (succ-base (first-of queue ring)) i words) (state-of (counts-of (c .sheet)) s) (record { table = (c .at) .table; queue = held queue ring₁ }))
+    serving-stands = g .moved .stands (c .sheet) _ (rest-stands (c .sheet) (c .at) (c .running .stands))
+
+    -- there is room for one more that waits
+    pub serving-room : ring′ .count < queue-size
+    serving-room =
+        let S = c .sheet in
+        let b = first-of queue ring in
+        let succs : succs-of S b ≡ region (succ-base b) i words ++ region (succ-base b + i) (succ-total words b - i) words =
+        first-succs S (c .running .stands .tables .sheet) ∙ ap (λ (n : ℕ). region (succ-base b) n words) (omega (arith, g .past)) ∙ region-joined (succ-base b) i words (succ-total words b - i) in
+        let inside = standing-inside rule S _ (c .running .standing) b (held queue ring₁) _ (region (succ-base b) i words) _ first-waits (first-state S (c .at) (c .running .stands)) succs in
+        let e : length (held queue′ ring′) ≡ _ = ap length (serving-stands .waiting) in
+        omega (arith, bound-fits rule (c .running .stands .tables .sheet), length-held queue′ (ring′ .head) (ring′ .count), e, rw (← through .is S (c .running .stands .tables .sheet)) at (standing-room rule S _ inside))
+
+    pub serving-sound : Sound queue′ ring′
+    serving-sound = serving-stands .sound
+
+    pub serving-ready : Ready words′
+    serving-ready = ready-stays (g .moved .kept) (c .running .stands .tables .sheet .ready)
+
+    -- the next successor is a block
+    pub serving-block : i < succ-total words (getD queue (ring .head) 0) → getD words′ (succ-base (getD queue (ring .head) 0) + i) 0 < getD words′ blocks-word 0
+    serving-block l =
+        let low : succ-base (first-of queue ring) + i < state-base = omega (arith, visiting .small, visiting .succs) in
+        rw (g .moved .kept .below (succ-base (first-of queue ring) + i) low, g .moved .kept .below blocks-word (omega arith)) (first-bounds .below i l)
+
+    -- all are served: that was the visit
+    pub moved-visit : succ-total words (getD queue (ring .head) 0) ≤ i → Moved rule words queue ring words′ queue′ ring′ (λ S. step (flow rule S))
+    moved-visit l = record { kept = g .moved .kept; same-length = g .moved .same-length; stands = stands }
+      where
+        stands : (S : Sheet) (r : Run State) → Stands rule S words queue ring r → Stands rule S words′ queue′ ring′ (step (flow rule S) r)
+        stands S r h =
+            let all : i ≡ succ-total words (first-of queue ring) = omega (arith, g .past) in
+            rw (step-is rule S r (first-of queue ring) (held queue ring₁) _ (sym (h .waiting) ∙ taken .holds) (first-state S r h), ← through .is S (h .tables .sheet), first-succs S (h .tables .sheet), ← all)
+            (g .moved .stands S _ (rest-stands S r h))

@@ -1,0 +1,7 @@
+pub mod LawsQueue
+pub mod LawsTable
+pub mod LawsBegin
+pub mod LawsThrough
+pub mod LawsPush
+pub mod LawsVisit
+pub mod LawsAnalysis

@@ -1,0 +1,76 @@
+use mathlib.Core.Path.{refl}
+use Prim.Native.Nat.{_-_}
+use native.Mathlib.Omega.{arith}
+use borrow.Author.Needs.{needs}
+use Rattle.paper.specs.Runs.{visit-bound}
+use Rattle.cells.specs.Meeting.{meet-table}
+use Rattle.sheet.specs.Loaded.{sheet-of}
+use Rattle.runs.proofs.LawsAnalysis.{Going, going-begins, going-continues, going-left, going-small, going-more, going-ends, analysed-from}
+use Rattle.runs.proofs.analyze.Statement.{statement}
+use Rattle.runs.proofs.analyze.Tie as tie
+
+abbrev Inv-loop : tie.InvT-loop
+Inv-loop rule words₀ queue₀ table ring₀ visits₀ words queue ring visits = Going rule words₀ queue₀ words queue ring visits
+
+abbrev μ-loop : tie.MeasureT-loop
+μ-loop rule words₀ queue₀ table ring₀ visits₀ words queue ring visits = visit-bound rule (sheet-of words₀) - visits
+
+begin-requires : tie.Need-begin-requires Inv-loop μ-loop
+begin-requires c κs = search needs
+
+loop-holds : tie.Need-loop-holds Inv-loop μ-loop
+loop-holds c =
+    let b = c .before .before .before .before in
+    let a = b .before .before .before .before .before in
+    going-begins (a .pre .0) (a .pre .1) (b .begin .ensures)
+
+visit-requires : tie.Need-visit-requires Inv-loop μ-loop
+unfolding meet-table
+visit-requires c κs =
+    let t = c .before .before .before in
+    (refl, going-continues (t .before .before .loop .inv), t .if1 .taken)
+
+add-visits : tie.Need-add-visits Inv-loop μ-loop
+add-visits c =
+    let t = c .before .before .before .before .before .before .before .before in
+    let l = t .before .before in
+    omega (arith, going-small (l .loop .inv) (t .if1 .taken))
+
+loop-less : tie.Need-loop-less Inv-loop μ-loop
+loop-less c =
+    let t = c .before .before .before .before .before .before .before .before in
+    let l = t .before .before in
+    omega (arith, going-left (l .loop .inv) (t .if1 .taken))
+
+loop-again : tie.Need-loop-again Inv-loop μ-loop
+loop-again c =
+    let t = c .before .before .before .before .before .before .before .before in
+    let l = t .before .before in
+    going-more (l .loop .inv) (t .if1 .taken) (c .before .before .before .before .visit .ensures)
+
+same-length : tie.Need-same-length Inv-loop μ-loop
+same-length c = search needs
+
+same-length-2 : tie.Need-same-length-2 Inv-loop μ-loop
+same-length-2 c = search needs
+
+returns : tie.Need-returns Inv-loop μ-loop
+returns c =
+    let l = c .before .before in
+    analysed-from (l .before .before .before .before .before .begin .ensures) (going-ends (l .loop .inv) (c .if1 .left))
+
+pub analyze-spec : {M : Type 1} → statement M
+analyze-spec =
+    tie.close
+    (tie.spec
+    Inv-loop
+    μ-loop
+    begin-requires
+    loop-holds
+    visit-requires
+    add-visits
+    loop-less
+    loop-again
+    same-length
+    same-length-2
+    returns)

@@ -1,0 +1,149 @@
+use Prim.Native.Nat.{ℕ, _+_, _*_, _-_}
+use native.Mathlib.Omega.{arith}
+use borrow.Author.Needs.{needs}
+use lib.ListN.{getD}
+use Rattle.steps.specs.Layout.{block-base, block-words}
+use Rattle.runs.proofs.LawsVisit.{Serving, serving-none, serving-more, still-allocated, first-below, Visiting, visiting, serving-ready, serving-block, serving-sound, serving-room, moved-visit}
+use Rattle.runs.proofs.visit.Statement.{statement}
+use Rattle.runs.proofs.visit.Tie as tie
+
+abbrev Inv-loop : tie.InvT-loop
+Inv-loop table rule words₀ queue₀ head b waiting₀ result at total i₀ words queue waiting i = Serving rule words₀ queue₀ waiting₀ result (at + 3) total words queue waiting i
+
+abbrev μ-loop : tie.MeasureT-loop
+μ-loop table rule words₀ queue₀ head b waiting₀ result at total i₀ words queue waiting i = total - i
+
+-- the visited block
+abbrev first : tie.After-through Inv-loop μ-loop → ℕ
+first c = let a = c .before .before .before .before .before .before in getD (a .args .queue .now) (a .args .ring .head) 0
+
+visited : (c : tie.After-through Inv-loop μ-loop) → Visiting (c .before .before .before .before .before .before .args .words .now) (first c)
+visited c =
+    let t = c .before .before in
+    let g = t .before .before .before .before .pre .1 in
+    visiting g (t .take .ensures _ (g .running .stands .sound))
+
+slice-read-b : tie.Need-slice-read-b Inv-loop μ-loop
+slice-read-b c = search needs
+
+cast-b : tie.Need-cast-b Inv-loop μ-loop
+cast-b c = omega (arith, c .slice-known3 .given (c .before .before .before .args .ring .head))
+
+take-requires : tie.Need-take-requires Inv-loop μ-loop
+take-requires c κs = search needs
+
+through-requires : tie.Need-through-requires Inv-loop μ-loop
+through-requires c κs =
+    let t = c .before in
+    let a = t .before .before .before .before in
+    let g = a .pre .1 in
+    let k = t .take .ensures _ (g .running .stands .sound) in
+    (g .running .stands .tables .sheet .ready, still-allocated g k, first-below g k)
+
+mul-at : tie.Need-mul-at Inv-loop μ-loop
+mul-at c = let v = visited c in omega (arith, v .small)
+
+add-at : tie.Need-add-at Inv-loop μ-loop
+add-at c = let v = visited c in omega (arith, v .small)
+
+add-total : tie.Need-add-total Inv-loop μ-loop
+add-total c = let v = visited c in omega (arith, v .small)
+
+mul-total : tie.Need-mul-total Inv-loop μ-loop
+mul-total c = let v = visited c in omega (arith, v .small)
+
+slice-read-total : tie.Need-slice-read-total Inv-loop μ-loop
+slice-read-total c = let v = visited (c .before) in omega (arith, v .small, v .size)
+
+cast-total : tie.Need-cast-total Inv-loop μ-loop
+cast-total c = omega (arith, c .slice-known4 .given (block-base + first (c .before) * block-words + 2))
+
+loop-holds : tie.Need-loop-holds Inv-loop μ-loop
+loop-holds c = serving-none
+
+add-s : tie.Need-add-s Inv-loop μ-loop
+add-s c = let v = visited (c .before .before .before) in omega (arith, v .small)
+
+add-s-2 : tie.Need-add-s-2 Inv-loop μ-loop
+add-s-2 c = let v = visited (c .before .before .before) in omega (arith, v .small, v .succs)
+
+mul-s : tie.Need-mul-s Inv-loop μ-loop
+mul-s c = let v = visited (c .before .before .before) in omega (arith, v .small, v .succs)
+
+slice-read-s : tie.Need-slice-read-s Inv-loop μ-loop
+slice-read-s c = let v = visited (c .before .before .before .before) in omega (arith, v .small, v .succs, v .size, c .before .before .loop .inv .moved .kept .same-length)
+
+cast-s : tie.Need-cast-s Inv-loop μ-loop
+cast-s c = omega (arith, c .slice-known5 .given (block-base + first (c .before .before .before .before) * block-words + 3 + c .before .before .loop .i))
+
+push-requires : tie.Need-push-requires Inv-loop μ-loop
+push-requires c κs =
+    let i = c .before .before .before in
+    let h = i .before .before .before in
+    let t = h .before .before in
+    let a = t .before .before .before .before in
+    let g = a .pre .1 in
+    let k = t .take .ensures _ (g .running .stands .sound) in
+    let s = i .before .loop .inv in
+    let w = h .through .ensures in
+    (a .pre .0, serving-ready g k w s, serving-block g k w s (i .loop-test .taken), serving-sound g k w s, serving-room g k w s)
+
+add-i : tie.Need-add-i Inv-loop μ-loop
+add-i c =
+    let i = c .before .before .before .before .before .before .before .before in
+    let v = visited (i .before .before .before) in
+    omega (arith, v .succs, i .loop-test .taken)
+
+loop-less : tie.Need-loop-less Inv-loop μ-loop
+loop-less c = search needs
+
+loop-again : tie.Need-loop-again Inv-loop μ-loop
+loop-again c =
+    let p = c .before .before .before .before in
+    let i = p .before .before .before .before in
+    let v = visited (i .before .before .before) in
+    serving-more (i .before .loop .inv) (i .loop-test .taken) (omega (arith, v .small, v .succs)) (omega (arith, v .small, v .succs, v .size)) (p .push .ensures)
+
+same-length : tie.Need-same-length Inv-loop μ-loop
+same-length c = search needs
+
+same-length-2 : tie.Need-same-length-2 Inv-loop μ-loop
+same-length-2 c = search needs
+
+returns : tie.Need-returns Inv-loop μ-loop
+returns c =
+    let h = c .before .before .before in
+    let t = h .before .before in
+    let a = t .before .before .before .before in
+    let g = a .pre .1 in
+    moved-visit g (t .take .ensures _ (g .running .stands .sound)) (h .through .ensures) (c .before .loop .inv) (c .loop-test .left)
+
+pub visit-spec : {M : Type 1} → statement M
+visit-spec =
+    tie.close
+    (tie.spec
+    Inv-loop
+    μ-loop
+    slice-read-b
+    cast-b
+    take-requires
+    through-requires
+    mul-at
+    add-at
+    add-total
+    mul-total
+    slice-read-total
+    cast-total
+    loop-holds
+    add-s
+    add-s-2
+    mul-s
+    slice-read-s
+    cast-s
+    push-requires
+    add-i
+    loop-less
+    loop-again
+    same-length
+    same-length-2
+    returns)

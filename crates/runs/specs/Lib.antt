@@ -1,0 +1,7 @@
+pub mod Layout
+pub mod Queue
+pub mod Table
+pub mod Seen
+pub mod Sheets
+pub mod Allowed
+pub mod Stands

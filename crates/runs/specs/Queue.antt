@@ -1,0 +1,36 @@
+-- The blocks that wait, in a ring: `count` bytes from `head` on, round the end of the queue's first `queue-size` bytes.
+use mathlib.Core.Path.{_≡_}
+use mathlib.Core.Bool.{cond}
+use mathlib.Core.List.{List, [], _∷_, _++_}
+use Prim.Native.Nat.{ℕ, zero, suc, _+_, _-_, _≤_, _<_}
+use lib.Dec.{ltb}
+use lib.ListN.{length, getD}
+use Rattle.paper.specs.Limits.{queue-size}
+use Rattle.runs.specs.declared.Ring.{Ring}
+
+-- the place n bytes behind `head`
+unfoldable pub place : ℕ → ℕ → ℕ
+place head n = cond (ltb (head + n) queue-size) (head + n) (head + n - queue-size)
+
+unfoldable pub held-from : List ℕ → ℕ → ℕ → List ℕ
+held-from queue head zero = []
+held-from queue head (suc n) = held-from queue head n ++ (getD queue (place head n) 0 ∷ [])
+
+abbrev pub held : List ℕ → Ring → List ℕ
+held queue ring = held-from queue (ring .head) (ring .count)
+
+pub record Sound (queue : List ℕ) (ring : Ring) : Type 0 where
+  pub size : queue-size ≤ length queue
+  pub inside : ring .head < queue-size
+  pub fits : ring .count ≤ queue-size
+
+-- one more at the end
+pub record Appended (queue : List ℕ) (ring : Ring) (b : ℕ) (queue′ : List ℕ) (ring′ : Ring) : Type 0 where
+  pub sound : Sound queue′ ring′
+  pub same-length : length queue′ ≡ length queue
+  pub holds : held queue′ ring′ ≡ held queue ring ++ (b ∷ [])
+
+-- the one that waits longest is gone
+pub record Taken (queue : List ℕ) (ring : Ring) (ring′ : Ring) : Type 0 where
+  pub sound : Sound queue ring′
+  pub holds : held queue ring ≡ getD queue (ring .head) 0 ∷ held queue ring′

@@ -1,0 +1,236 @@
+// The analysis under either rule: the blocks' states in the lent words, the blocks that wait in the lent queue.
+ghost use mathlib.Core.Path.{_≡_};
+ghost use mathlib.Core.List.{List, []};
+ghost use Prim.Native.Nat.{ℕ, _≤_, _<_};
+ghost use lib.ListN.{length, getD};
+ghost use Rattle.paper.specs.Sheet.{Sheet};
+ghost use Rattle.paper.specs.Report.{missing-allocations};
+ghost use Rattle.paper.specs.Limits.{queue-size};
+ghost use Rattle.paper.specs.Runs as paper-runs;
+ghost use Rattle.cells.specs.Meeting.{meet-table};
+ghost use Rattle.cells.specs.States.{state-of};
+ghost use Rattle.sheet.specs.Loaded.{blocks-word, sheet-of, Loaded};
+ghost use Rattle.runs.specs.Layout.{run-words, RunKept, counts-of};
+ghost use Rattle.runs.specs.Queue.{place, Sound, Appended, Taken};
+ghost use Rattle.runs.specs.Table.{Ready, mark-of, Tables, Came, Entered, Through};
+ghost use Rattle.runs.specs.Stands.{Begins, Continues, Moved, Analysed};
+use cells::State;
+use paper::Rule;
+use steps::ALL_WORDS;
+use steps::BLOCK_BASE;
+use steps::BLOCK_WORDS;
+use steps::MOST_BLOCKS;
+use steps::STATE_BASE;
+use steps::STATE_WORDS;
+
+// The header's words.
+const REGS_WORD: usize = 0;
+
+const SLOTS_WORD: usize = 1;
+
+const BLOCKS_WORD: usize = 3;
+
+const ENTRY_WORD: usize = 4;
+
+// Behind the states a mark for each block: 0 where it is unvisited.
+pub const MARK_BASE: usize = ALL_WORDS;
+
+pub const RUN_WORDS: usize = MARK_BASE + MOST_BLOCKS;
+
+// Room for every visit that the old run can make.
+pub const QUEUE_SIZE: usize = 1 + MOST_BLOCKS * (4 * (32 + 32));
+
+// The blocks that wait: `count` bytes of the queue from `head` on, round its end.
+pub struct Ring {
+    pub head: usize,
+    pub count: usize,
+}
+
+// The place n bytes behind `head`.
+fn place(head: usize, n: usize) -> usize
+    requires { ⌜ (head < queue-size) × (n ≤ queue-size) ⌝ }
+    ensures { λ r. ⌜ (r ≡ place head n) × (r < queue-size) ⌝ }
+{
+    let there = head + n;
+    if there < QUEUE_SIZE {
+        there
+    } else {
+        there - QUEUE_SIZE
+    }
+}
+
+// A block more waits.
+fn append(queue: &mut [u8], ring: Ring, b: u8) -> Ring
+    requires { ⌜ Sound (now queue) ring × (ring .count < queue-size) ⌝ }
+    ensures { λ r. ⌜ Appended (now (queue .entry)) ring b (now (queue .exit)) r ⌝ }
+{
+    let head = ring.head;
+    let count = ring.count;
+    let there = place(head, count);
+    queue[there] = b;
+    Ring {
+        head,
+        count: count + 1,
+    }
+}
+
+// The block at the head waits no more.
+fn take(ring: Ring) -> Ring
+    requires { ⌜ (ring .head < queue-size) × (0 < ring .count) ⌝ }
+    ensures { λ r. ⌜ ((queue : List ℕ) → Sound queue ring → Taken queue ring r) ⌝ }
+{
+    let head = ring.head;
+    let count = ring.count;
+    Ring {
+        head: place(head, 1),
+        count: count - 1,
+    }
+}
+
+// The mark that a block begins with: under the old rule every block has a state.
+fn first_mark(rule: Rule) -> u16
+    ensures { λ r. ⌜ ((S : Sheet) (b : ℕ) → r ≡ mark-of (paper-runs.before rule S b)) ⌝ }
+{
+    match rule {
+        Rule::Old => 1,
+        Rule::House => 0,
+    }
+}
+
+// Block b gets a state, and is visited.
+fn enter(words: &mut [u16], b: usize, s: State)
+    requires { ⌜ Ready (now words) × (b < getD (now words) blocks-word 0) ⌝ }
+    ensures { λ r. ⌜ Entered b s (now (words .entry)) (now (words .exit)) ⌝ }
+{
+    let regs = words[REGS_WORD] as usize;
+    let slots = words[SLOTS_WORD] as usize;
+    cells::store(words, STATE_BASE + b * STATE_WORDS, s, regs, slots);
+    words[MARK_BASE + b] = 1;
+}
+
+// Every block as it begins.
+fn begin_blocks(rule: Rule, words: &mut [u16])
+    requires { ⌜ Ready (now words) ⌝ }
+    ensures { λ r. ⌜ RunKept (now (words .entry)) (now (words .exit)) × Tables rule (sheet-of (now (words .entry))) (now (words .exit)) (paper-runs.before rule (sheet-of (now (words .entry)))) ⌝ }
+{
+    let regs = words[REGS_WORD] as usize;
+    let slots = words[SLOTS_WORD] as usize;
+    let blocks = words[BLOCKS_WORD] as usize;
+    let s = cells::unreached_state(rule);
+    let mut b = 0;
+    while b < blocks {
+        cells::store(words, STATE_BASE + b * STATE_WORDS, s, regs, slots);
+        words[MARK_BASE + b] = first_mark(rule);
+        b += 1;
+    }
+}
+
+// The run as it begins: the entry has its state and waits.
+fn begin(rule: Rule, words: &mut [u16], queue: &mut [u8]) -> Ring
+    requires { ⌜ Ready (now words) × (queue-size ≤ length (now queue)) ⌝ }
+    ensures { λ r. ⌜ Begins rule (now (words .entry)) (now (queue .entry)) (now (words .exit)) (now (queue .exit)) r ⌝ }
+{
+    let regs = words[REGS_WORD] as usize;
+    let entry = words[ENTRY_WORD];
+    begin_blocks(rule, words);
+    enter(words, entry as usize, cells::entry_state(rule, regs));
+    append(queue, Ring { head: 0, count: 0 }, entry as u8)
+}
+
+// A state comes to block b: whether that changes a cell or marks the block.
+fn join(table: &[[[u8; 4]; 4]; 2], rule: Rule, words: &mut [u16], b: usize, s: State) -> bool
+    requires { ⌜ (now table ≡ meet-table) × Ready (now words) × (b < getD (now words) blocks-word 0) ⌝ }
+    ensures { λ r. ⌜ Came rule b s (now (words .entry)) (now (words .exit)) r ⌝ }
+{
+    if words[MARK_BASE + b] == 0 {
+        enter(words, b, s);
+        return true;
+    }
+    let regs = words[REGS_WORD] as usize;
+    let slots = words[SLOTS_WORD] as usize;
+    cells::meet_with(
+        table,
+        rule,
+        words,
+        STATE_BASE + b * STATE_WORDS,
+        s,
+        regs,
+        slots,
+    )
+}
+
+// A state comes to block b, which waits where that is new.
+fn push(
+    table: &[[[u8; 4]; 4]; 2],
+    rule: Rule,
+    words: &mut [u16],
+    queue: &mut [u8],
+    ring: Ring,
+    b: usize,
+    s: State,
+) -> Ring
+    requires { ⌜ (now table ≡ meet-table) × Ready (now words) × (b < getD (now words) blocks-word 0) × Sound (now queue) ring × (ring .count < queue-size) ⌝ }
+    ensures { λ r. ⌜ Moved rule (now (words .entry)) (now (queue .entry)) ring (now (words .exit)) (now (queue .exit)) r (λ S. paper-runs.push (paper-runs.flow rule S) b (state-of (counts-of S) s)) ⌝ }
+{
+    if join(table, rule, words, b, s) {
+        append(queue, ring, b as u8)
+    } else {
+        ring
+    }
+}
+
+// What block b makes of the state that it holds.
+fn through(rule: Rule, words: &[u16], b: usize) -> State
+    requires { ⌜ Ready (now words) × (missing-allocations (sheet-of (now words)) ≡ []) × (b < getD (now words) blocks-word 0) ⌝ }
+    ensures { λ r. ⌜ Through rule b (now (words .entry)) r ⌝ }
+{
+    let regs = words[REGS_WORD] as usize;
+    let slots = words[SLOTS_WORD] as usize;
+    let s = cells::load(words, STATE_BASE + b * STATE_WORDS, regs, slots);
+    let at = BLOCK_BASE + b * BLOCK_WORDS;
+    let first = words[at] as usize;
+    let count = words[at + 1] as usize;
+    steps::effects(words, rule, s, regs, slots, first, count)
+}
+
+// One visit: the block at the head is taken, its steps are run, and each successor in listed order gets the result.
+fn visit(
+    table: &[[[u8; 4]; 4]; 2],
+    rule: Rule,
+    words: &mut [u16],
+    queue: &mut [u8],
+    ring: Ring,
+) -> Ring
+    requires { ⌜ (now table ≡ meet-table) × Continues rule (now words) (now queue) ring × (0 < ring .count) ⌝ }
+    ensures { λ r. ⌜ Moved rule (now (words .entry)) (now (queue .entry)) ring (now (words .exit)) (now (queue .exit)) r (λ S. paper-runs.step (paper-runs.flow rule S)) ⌝ }
+{
+    let head = ring.head;
+    let b = queue[head] as usize;
+    let mut waiting = take(ring);
+    let result = through(rule, words, b);
+    let at = BLOCK_BASE + b * BLOCK_WORDS;
+    let total = words[at + 2] as usize;
+    let mut i = 0;
+    while i < total {
+        let s = words[at + 3 + i] as usize;
+        let next = push(table, rule, words, queue, waiting, s, result);
+        waiting = next;
+        i += 1;
+    }
+    waiting
+}
+
+// The run of a rule to its end, in the words behind the loaded sheet.
+pub fn analyze(rule: Rule, words: &mut [u16], queue: &mut [u8])
+    requires { ⌜ Loaded (now words) × (missing-allocations (sheet-of (now words)) ≡ []) × (run-words ≤ length (now words)) × (queue-size ≤ length (now queue)) ⌝ }
+    ensures { λ r. ⌜ Analysed rule (now (words .entry)) (now (queue .entry)) (now (words .exit)) (now (queue .exit)) ⌝ }
+{
+    let table = cells::MEET;
+    let mut ring = begin(rule, words, queue);
+    let mut visits: usize = 0;
+    while 0 < ring.count {
+        let next = visit(&table, rule, words, queue, ring);
+        ring = next;
+        visits += 1;
+    }
+}

@@ -1,0 +1,48 @@
+-- An action that `records` has judged can be the next step.
+use mathlib.Core.Path.{_≡_, refl, sym, ap, _∙_}
+use mathlib.Core.Bool.{Bool, true, false, _||_}
+use mathlib.Core.Logic.{_⊎_, inl, inr}
+use mathlib.Core.List.{List, [], _∷_, map}
+use mathlib.Core.Option.{Option, some}
+use Prim.Native.Nat.{ℕ, _+_, _*_, _/_, _^_, _≤_, _<_}
+use native.Mathlib.Nat.{add-zero, zero-add}
+use native.Mathlib.Omega.{arith}
+use borrow.Author.Tests.{eqb-true, eqb-false}
+use lib.Dec.{eqb, leb, ltb}
+use lib.ListN.{length, getD, take, drop}
+use Rattle.lists.specs.Split.{by-test}
+use Rattle.paper.specs.Text.{Bytes}
+use Rattle.paper.specs.Sheet.{Sheet, safepoint}
+use Rattle.paper.specs.Limits.{max-inst}
+use Rattle.paper.specs.Refusals.{Record, step-record, any, beyond-limit, out-of-order, real-elsewhere, types-differ, step-beyond}
+use Rattle.records.specs.Records.{lowest, verdict, Told}
+use Rattle.lists.specs.Bits.{set-bits}
+use Rattle.steps.specs.Layout.{operand-base, operand-words, defs-from, all-words}
+use Rattle.steps.specs.declared.Action.the-variants.{Spill, Reload, Move, Change, Operation, Safepoint}
+use Rattle.sheet.specs.Loaded.{regs-word, slots-word, steps-word, sheet-of}
+use Rattle.sheet.specs.Reading.{Progress, Fits, counts-of}
+use Rattle.sheet.proofs.LawsProgress.{counts-within}
+
+module _ (l : List ℕ) (p : Progress l) where
+  pub spill-fits : (k r : ℕ) → k < getD l slots-word 0 → r < getD l regs-word 0 → Fits l (Spill k r)
+  spill-fits k r hk hr =
+      let w = counts-within l p in
+      record { packs = (omega arith, omega arith); ranged = (hk, hr); honest = tt }
+
+  pub reload-fits : (r k : ℕ) → r < getD l regs-word 0 → k < getD l slots-word 0 → Fits l (Reload r k)
+  reload-fits r k hr hk =
+      let w = counts-within l p in
+      record { packs = (omega arith, omega arith); ranged = (hr, hk); honest = tt }
+
+  pub move-fits : (into from : ℕ) → into < getD l regs-word 0 → from < getD l regs-word 0 → Fits l (Move into from)
+  move-fits into from hi hf =
+      let w = counts-within l p in
+      record { packs = (omega arith, omega arith); ranged = (hi, hf); honest = tt }
+
+  pub change-fits : (inst k from to : ℕ) → k < getD l slots-word 0 → Fits l (Change inst k from to)
+  change-fits inst k from to h =
+      let w = counts-within l p in
+      record { packs = omega arith; ranged = h; honest = tt }
+
+  pub safepoint-fits : (inst mask : ℕ) → mask < 2 ^ getD l slots-word 0 → Fits l (Safepoint inst mask)
+  safepoint-fits inst mask h = record { packs = tt; ranged = h; honest = tt }

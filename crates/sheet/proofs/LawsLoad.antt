@@ -1,0 +1,168 @@
+-- The lines of a sheet, one after the other, and its end.
+use mathlib.Core.Path.{_≡_, refl, sym, ap, _∙_}
+use mathlib.Core.Bool.{Bool, true, false, cond, not, _||_, true≢false}
+use mathlib.Core.List.{List, [], _∷_, _++_}
+use mathlib.Core.Option.{Option, none, some}
+use Prim.Native.Nat.{ℕ, suc, _+_, _≤_, _<_}
+use native.Mathlib.Numerals.{add-one}
+use native.Mathlib.Omega.{arith}
+use borrow.Author.Tests.{ltb-false, ltb-true, eqb-true, eqb-false, le-ltb, lt-ltb, eq-eqb}
+use lib.Dec.{eqb, ltb}
+use lib.ListN.{length, getD, take, drop, replicate, length-append, length-drop, length-replicate, List·getD-append, getD-replicate}
+use lib.Seq.{length-take-le}
+use Rattle.lists.specs.Split.{by-test}
+use Rattle.paper.specs.Text.{Bytes, lines, fields}
+use Rattle.paper.specs.Sheet.{Sheet}
+use Rattle.paper.specs.Refusals.{Reading, loaded, refused, good, bad, record-of, read-record, read-line, read-end, carry-on, read-lines, no-text, read}
+use Rattle.paper.specs.Refusals as paper
+use Rattle.fields.specs.Fields.{line-at, line-end}
+use Rattle.fields.specs.Cursor.{lines-at, lines-past}
+use Rattle.steps.specs.Layout.{block-base, all-words}
+use Rattle.sheet.specs.Loaded.{blocks-word, opened-word, begun-word, blocks-at, sheet-of, so-far, Loaded}
+use Rattle.sheet.specs.Reading.{Blank, Progress, lined-of, GoodLine, LineRead, loading-of, Load}
+use Rattle.sheet.specs.Reading as reading
+use Rattle.sheet.specs.declared.Lined as Lined
+use Rattle.sheet.specs.declared.Lined.the-variants as lined
+use Rattle.sheet.specs.declared.Loading as Loading
+use Rattle.sheet.specs.declared.Loading.the-variants as loading
+use Rattle.sheet.proofs.LawsBlocks.{length-blocks}
+use Rattle.sheet.proofs.LawsProgress.{so-far-blank, so-far-begun, begun-of}
+
+-- what is still to be read, from the line at `at` on, gives what the sheet gives
+pub record Ahead (sheet : Bytes) (at line : ℕ) (words₀ words : List ℕ) : Type 0 where
+  pub gives : read sheet ≡ read-lines line (so-far words) (lines (drop at sheet))
+  pub progress : Progress words
+  pub same-length : length words ≡ length words₀
+  pub inside : at ≤ length sheet
+  pub few : line ≤ at + 1
+
+pub ahead-at-first : (sheet : Bytes) (words₀ words : List ℕ) → no-text sheet ≡ false → Blank words → length words ≡ length words₀ → Ahead sheet 0 1 words₀ words
+unfolding read
+ahead-at-first sheet words₀ words e blank same = record {
+  gives = rw (e, so-far-blank words blank);
+  progress = reading.blank blank;
+  same-length = same;
+  inside = omega arith;
+  few = omega arith;
+}
+
+-- ---- a line
+
+good-of : (next n : ℕ) (x : paper.Lined) (P : Type 0) → lined.Good n ≡ lined-of next x → ((S : Sheet) → x ≡ good S → n ≡ next → P) → P
+unfolding lined-of
+good-of next n (good S) P e f = f S refl (cc)
+good-of next n (bad k) P e f = absurd (let z : _≡_ {A = ℕ} 0 1 = cc in omega arith)
+
+bad-of : (next n : ℕ) (x : paper.Lined) → lined.Bad n ≡ lined-of next x → x ≡ bad n
+unfolding lined-of
+bad-of next n (good S) e = absurd (let z : _≡_ {A = ℕ} 0 1 = cc in omega arith)
+bad-of next n (bad k) e = cc
+
+further : (sheet : Bytes) (at : ℕ) → at ≤ line-end sheet at
+unfolding line-end
+further sheet at = omega arith
+
+module _ {sheet : Bytes} {at line : ℕ} {words₀ words : List ℕ} (ahead : Ahead sheet at line words₀ words) (more : at < length sheet) where
+  next-line : read sheet ≡ carry-on line (read-record (so-far words) (record-of (fields (line-at sheet at)))) (λ S. read-lines (suc line) (some S) (lines (drop (line-end sheet at + 1) sheet)))
+  unfolding read-lines read-line
+  next-line = ahead .gives ∙ rw (lines-at sheet at more)
+
+  pub line-good : {words′ : List ℕ} (n : ℕ) → LineRead (record-of (fields (line-at sheet at))) sheet at words words′ (lined.Good n) → Ahead sheet n (line + 1) words₀ words′
+  unfolding carry-on
+  line-good {words′} n r =
+      good-of (line-end sheet at + 1) n (read-record (so-far words) (record-of (fields (line-at sheet at)))) (Ahead sheet n (line + 1) words₀ words′) (r .answer) λ S g e.
+      let k = r .good-line S g in
+      rw e (record {
+        gives = rw (add-one line, k .sheet-so-far) (next-line ∙ rw g);
+        progress = k .progress;
+        same-length = r .same-length ∙ ahead .same-length;
+        inside = omega (arith, k .inside);
+        few = omega (arith, ahead .few, further sheet at);
+      })
+
+  pub line-further : {words′ : List ℕ} (n : ℕ) → LineRead (record-of (fields (line-at sheet at))) sheet at words words′ (lined.Good n) → at < n
+  line-further n r =
+      good-of (line-end sheet at + 1) n (read-record (so-far words) (record-of (fields (line-at sheet at)))) (at < n) (r .answer) λ S g e.
+      omega (arith, further sheet at)
+
+  pub line-bad : {words′ : List ℕ} (n : ℕ) → LineRead (record-of (fields (line-at sheet at))) sheet at words words′ (lined.Bad n) → Load sheet words₀ words′ (loading.Refused n line)
+  unfolding carry-on loading-of
+  line-bad {words′} n r =
+      let b : read-record (so-far words) (record-of (fields (line-at sheet at))) ≡ bad n = bad-of (line-end sheet at + 1) n _ (r .answer) in
+      let q : read sheet ≡ refused n line = next-line ∙ rw b in
+      record {
+        answer = rw q;
+        same-length = r .same-length ∙ ahead .same-length;
+        meaning = λ S g. absurd (let w : refused n line ≡ loaded S = sym q ∙ g in let z : _≡_ {A = ℕ} 0 1 = cc in omega arith);
+      }
+
+-- ---- the end
+
+module _ {sheet : Bytes} {at line : ℕ} {words₀ words : List ℕ} (ahead : Ahead sheet at line words₀ words) (ended : length sheet ≤ at) where
+  at-end : read sheet ≡ read-end line (so-far words)
+  unfolding read-lines
+  at-end = ahead .gives ∙ rw (lines-past sheet at ended)
+
+  -- "or the sheet ends with too few `B`"
+  pub too-few : (eqb (getD words begun-word 0) 0 || ltb (getD words opened-word 0) (getD words blocks-word 0)) ≡ true → Load sheet words₀ words (loading.Refused 4 line)
+  unfolding loading-of read-end sheet-of
+  too-few e =
+      let q : read sheet ≡ refused 4 line = at-end ∙ go (ahead .progress) e in
+      record {
+        answer = rw q;
+        same-length = ahead .same-length;
+        meaning = λ S g. absurd (let w : refused 4 line ≡ loaded S = sym q ∙ g in let z : _≡_ {A = ℕ} 0 1 = cc in omega arith);
+      }
+    where
+      go : Progress words → (eqb (getD words begun-word 0) 0 || ltb (getD words opened-word 0) (getD words blocks-word 0)) ≡ true → read-end line (so-far words) ≡ refused 4 line
+      go (reading.blank p) e = rw (so-far-blank words p)
+      go (reading.begun p) e = rw (so-far-begun words p, length-blocks words 0 (getD words opened-word 0), rw (p .begun) at e)
+
+  pub all-read : (eqb (getD words begun-word 0) 0 || ltb (getD words opened-word 0) (getD words blocks-word 0)) ≡ false → Load sheet words₀ words loading.Loaded
+  unfolding loading-of read-end sheet-of
+  all-read e = go (ahead .progress)
+    where
+      go : Progress words → Load sheet words₀ words loading.Loaded
+      go (reading.blank p) = absurd (let z : true ≡ false = rw (p .zeros begun-word (omega arith)) at e in true≢false z)
+      go (reading.begun p) =
+          let few : ltb (getD words opened-word 0) (getD words blocks-word 0) ≡ false = rw (p .begun) at e in
+          let q : read sheet ≡ loaded (sheet-of words) = at-end ∙ rw (so-far-begun words p, length-blocks words 0 (getD words opened-word 0), few) in
+          record {
+            answer = rw q;
+            same-length = ahead .same-length;
+            meaning = λ S g. (
+              let w : loaded (sheet-of words) ≡ loaded S = sym q ∙ g in cc,
+              record { bounds = p .bounds; whole = omega (arith, p .bounds .opened, ltb-false (getD words opened-word 0) (getD words blocks-word 0) few) },
+            );
+          }
+
+-- ---- before the first line
+
+-- refusal 2
+pub no-sheet : (sheet : Bytes) (words : List ℕ) → no-text sheet ≡ true → Load sheet words words (loading.Refused 2 0)
+unfolding read loading-of
+no-sheet sheet words e = record {
+  answer = rw e;
+  same-length = refl;
+  meaning = λ S g. absurd (let w : refused 2 0 ≡ loaded S = rw e at g in let z : _≡_ {A = ℕ} 0 1 = cc in omega arith);
+}
+
+-- the words with all below the blocks cleared
+module _ (words zeros : List ℕ) (e : zeros ≡ replicate (length (take block-base words)) 0) (size : all-words ≤ length words) where
+  cleared-front : zeros ≡ replicate block-base 0
+  cleared-front = e ∙ ap (λ n. replicate n 0) (length-take-le block-base words (omega arith))
+
+  pub cleared-length : length (zeros ++ drop block-base words) ≡ length words
+  cleared-length = rw (length-append, cleared-front, length-replicate, length-drop) (omega arith)
+
+  pub cleared-blank : Blank (zeros ++ drop block-base words)
+  cleared-blank = record {
+    size = rw cleared-length size;
+    zeros = λ i h.
+        let here : i < length zeros = omega (arith, ap length cleared-front ∙ length-replicate {A = ℕ} block-base 0) in
+        List·getD-append zeros (drop block-base words) 0 i here ∙ ap (λ l. getD l i 0) cleared-front ∙ getD-replicate block-base i 0 0 h;
+  }
+
+pub load-from : {sheet : Bytes} {words₀ words : List ℕ} {r : Loading.Loading} (before : List ℕ) → length words₀ ≡ length before → Load sheet words₀ words r
+    → Load sheet before words r
+load-from before e l = record { answer = l .answer; same-length = l .same-length ∙ e; meaning = l .meaning }

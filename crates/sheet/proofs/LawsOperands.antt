@@ -1,0 +1,148 @@
+-- The operands of the next step, stored before the step stands: nothing that was read changes, and the action finds them there.
+use mathlib.Core.Path.{_≡_, refl, sym, ap, ap₂, _∙_}
+use mathlib.Core.Bool.{Bool, true, false}
+use mathlib.Core.Logic.{_⊎_, inl, inr}
+use mathlib.Core.List.{List, [], _∷_, map}
+use mathlib.Core.Option.{Option, none, some}
+use Prim.Native.Nat.{ℕ, _+_, _*_, _/_, _≤_, _<_}
+use native.Mathlib.Nat.{add-zero, zero-add}
+use native.Mathlib.Omega.{arith}
+use borrow.Author.Tests.{eqb-true, eqb-false}
+use lib.Dec.{eqb}
+use lib.ListN.{length, getD, take, drop}
+use lib.Seq.{ext-getD}
+use Rattle.lists.specs.Over.{over, length-over, getD-over-in, getD-over-below}
+use Rattle.lists.specs.Region.{region, length-region, getD-region}
+use Rattle.lists.specs.Split.{by-test}
+use Rattle.paper.specs.Text.{Bytes}
+use Rattle.paper.specs.Sheet.{Operand, Sheet, operation, reference-typed}
+use Rattle.paper.specs.Refusals.{Record, step-record}
+use Rattle.paper.specs.Limits.{max-steps, max-operands}
+use Rattle.records.specs.Records.{GroupWithin}
+use Rattle.steps.specs.Layout.{block-base, block-words, step-base, operand-base, operand-words, defs-from, all-words}
+use Rattle.steps.specs.Actions.{operand-of, operands, step-of}
+use Rattle.steps.specs.declared.Action.the-variants.{Operation}
+use Rattle.sheet.specs.Loaded.{regs-word, opened-word, steps-word, step-total, blocks-at, sheet-of, so-far}
+use Rattle.sheet.specs.Reading.{Blank, Begun, Progress, Fits, LineRead}
+use Rattle.sheet.specs.Reading as reading
+use Rattle.sheet.specs.declared.Lined as Lined
+use Rattle.sheet.proofs.LawsSteps.{SameSteps}
+use Rattle.sheet.proofs.LawsBlocks.{SameHead, SameLinks, kept-step-bounds, kept-block-bounds, kept-blocks, same-first}
+use Rattle.sheet.proofs.LawsBody.{with-body, bounds-after, least-after, begun-after, meaning-after}
+use Rattle.sheet.proofs.LawsProgress.{sheet-blank, so-far-blank, so-far-begun}
+
+-- the place of the next step's operands
+abbrev pub operands-place : List ℕ → ℕ
+operands-place l = operand-base + getD l steps-word 0 * operand-words
+
+module _ (row l m : List ℕ) (e : m ≡ over (operands-place l) operand-words (λ k x. getD row k 0) l) where
+  size : length m ≡ length l
+  size = rw e (length-over _ _ _ l)
+
+  low : (i : ℕ) → i < operands-place l → getD m i 0 ≡ getD l i 0
+  low i h = rw e (getD-over-below (operands-place l) operand-words (λ k x. getD row k 0) l i 0 h)
+
+  module _ (p : Blank l) where
+    blank-after : Blank m
+    blank-after = record { size = rw size (p .size); zeros = λ i h. low i (omega arith) ∙ p .zeros i h }
+
+  module _ (p : Begun l) where
+    head : SameHead l m
+    head = record { words = λ i h a b. low i (omega arith) }
+
+    steps : SameSteps l m (getD l steps-word 0)
+    steps = record { operands = record { same-length = size; words = λ i a b. low i b }; words = λ i a b. low i (omega (arith, p .bounds .steps)) }
+
+    links : (b : ℕ) → b < getD l opened-word 0 → SameLinks l m b
+    links b h = record { words = λ i a d. low (block-base + b * block-words + i) (omega (arith, p .bounds .opened, p .bounds .blocks)) }
+
+    totals : (b : ℕ) → b < getD l opened-word 0 → step-total m b ≡ step-total l b
+    totals b h = low (block-base + b * block-words + 1) (omega (arith, p .bounds .opened, p .bounds .blocks))
+
+    opened : getD m opened-word 0 ≡ getD l opened-word 0
+    opened = low opened-word (omega arith)
+
+    count : getD m steps-word 0 ≡ getD l steps-word 0
+    count = low steps-word (omega arith)
+
+    body : blocks-at m 0 (getD m opened-word 0) ≡ blocks-at l 0 (getD l opened-word 0)
+    body = rw opened (kept-blocks (p .bounds) head steps (getD l opened-word 0) (omega arith) links totals)
+
+    begun-still : Begun m
+    begun-still = record {
+      begun = begun-after p head steps;
+      bounds = bounds-after p head steps (rw opened (p .bounds .opened)) (rw count (p .bounds .steps))
+          (λ b h. let q : b < getD l opened-word 0 = rw opened at h in kept-block-bounds (p .bounds) head steps b q (links b q) (totals b q) (omega (arith, count)))
+          (λ k h. kept-step-bounds (p .bounds) head steps k (rw count at h));
+      least = least-after p head steps;
+      counted = rw (body, count) (p .counted);
+      last = λ b q.
+          let h : b + 1 ≡ getD l opened-word 0 = q ∙ opened in
+          rw (same-first (p .bounds) head steps b (omega arith) (links b (omega arith)), totals b (omega arith), count) (p .last b h);
+    }
+
+    sheet-still : sheet-of m ≡ sheet-of l
+    unfolding sheet-of with-body
+    sheet-still = meaning-after p head steps ∙ ap (with-body l) body
+
+  pub progress-kept : Progress l → Progress m
+  progress-kept (reading.blank p) = reading.blank (blank-after p)
+  progress-kept (reading.begun p) = reading.begun (begun-still p)
+
+  pub sheet-kept : Progress l → sheet-of m ≡ sheet-of l
+  sheet-kept (reading.blank p) = sheet-blank m (blank-after p) ∙ sym (sheet-blank l p)
+  sheet-kept (reading.begun p) = sheet-still p
+
+  pub so-far-kept : Progress l → so-far m ≡ so-far l
+  so-far-kept (reading.blank p) = so-far-blank m (blank-after p) ∙ sym (so-far-blank l p)
+  so-far-kept (reading.begun p) = so-far-begun m (begun-still p) ∙ ap (λ (S : Sheet). some S) (sheet-still p) ∙ sym (so-far-begun l p)
+
+  -- a line that was read from here was read from there
+  pub line-kept : Progress l → {read : Option Record} {s : Bytes} {at : ℕ} {l′ : List ℕ} {r : Lined.Lined} → LineRead read s at m l′ r → LineRead read s at l l′ r
+  line-kept p line = record {
+    answer = rw (← so-far-kept p) (line .answer);
+    same-length = line .same-length ∙ size;
+    good-line = λ S g. line .good-line S (rw (so-far-kept p) g);
+  }
+
+  module _ (all : length row ≡ operand-words) (room : operands-place l + operand-words ≤ length l) where
+    word-stored : (i : ℕ) → i < operand-words → getD m (operands-place l + i) 0 ≡ getD row i 0
+    word-stored i h = rw e (getD-over-in (operands-place l) operand-words (λ k x. getD row k 0) l i 0 h (omega arith))
+
+    group-stored : (from count : ℕ) → from + count ≤ operand-words → operands (operands-place l + from) count m ≡ operands from count row
+    unfolding operands region
+    group-stored from count h =
+        sym (ap (map operand-of)
+        (ext-getD 0 (region from count row) (region (operands-place l + from) count m)
+        (length-region from count row (omega arith) ∙ sym (length-region (operands-place l + from) count m (omega (arith, size)))) λ i q.
+        let qc : i < count = omega (arith, length-region from count row (omega arith)) in
+        let place : operands-place l + from + i ≡ operands-place l + (from + i) = omega arith in
+        getD-region from count row i qc ∙ sym (word-stored (from + i) (omega arith)) ∙ rw (← place) (sym (getD-region (operands-place l + from) count m i qc))))
+
+    pub operation-stored : (inst n k : ℕ) → n ≤ max-operands → k ≤ max-operands
+        → step-of m (Operation inst (operands-place l) n k) ≡ operation inst (operands 0 n row) (operands defs-from k row)
+    unfolding step-of
+    operation-stored inst n k hn hk = rw (← group-stored 0 n (omega arith), ← group-stored defs-from k (omega arith), add-zero)
+
+    pub operation-fits : Progress l → (inst n k : ℕ) → GroupWithin (sheet-of l) (getD l regs-word 0) 0 n row → GroupWithin (sheet-of l) (getD l regs-word 0) defs-from k row
+        → Fits m (Operation inst (operands-place l) n k)
+    operation-fits p inst n k us ds = record {
+      packs = (rw (low steps-word (omega arith)), omega (arith, us .few), omega (arith, ds .few));
+      ranged = rw (low regs-word (omega arith)) (
+        us .few,
+        ds .few,
+        rw size room,
+        (λ i h. rw (word-stored i (omega (arith, us .few))) (rw zero-add at (us .registers i h))),
+        λ i h. rw (def-place i, word-stored (defs-from + i) (omega (arith, ds .few))) (ds .registers i h),
+      );
+      honest = λ i h.
+          rw (sheet-kept p, def-place i, word-stored (defs-from + i) (omega (arith, ds .few)))
+          (ds .marks i h);
+    }
+      where
+        def-place : (i : ℕ) → operands-place l + defs-from + i ≡ operands-place l + (defs-from + i)
+        def-place i = omega arith
+
+pub operands-room : (l : List ℕ) → Progress l → operands-place l + operand-words ≤ length l
+operands-room l (reading.blank p) = omega (arith, p .zeros steps-word (omega arith), p .size)
+operands-room l (reading.begun p) = omega (arith, p .bounds .steps, p .bounds .size)

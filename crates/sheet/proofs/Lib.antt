@@ -1,0 +1,13 @@
+pub mod LawsTyped
+pub mod LawsSteps
+pub mod LawsBlocks
+pub mod LawsText
+pub mod LawsHeader
+pub mod LawsBody
+pub mod LawsJudged
+pub mod LawsProgress
+pub mod LawsLines
+pub mod LawsActions
+pub mod LawsOperands
+pub mod LawsLetters
+pub mod LawsLoad

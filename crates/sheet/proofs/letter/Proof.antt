@@ -1,0 +1,37 @@
+use mathlib.Core.Path.{_≡_, sym}
+use mathlib.Core.Bool.{true, false}
+use native.Mathlib.Omega.{arith}
+use lib.ListN.{getD}
+use Rattle.fields.specs.Fields.{ends-field}
+use Rattle.sheet.proofs.LawsText.{letter-none, not-last, letter-one, letter-more}
+use borrow.Author.Needs.{needs}
+use Rattle.sheet.proofs.letter.Statement.{statement}
+use Rattle.sheet.proofs.letter.Tie as tie
+
+shared-slice-read-b : tie.Need-shared-slice-read-b
+shared-slice-read-b c = search needs
+
+returns : tie.Need-returns
+unfolding ends-field
+returns c = sym (letter-none _ _ (c .before .before .pre .1) (c .if1 .taken))
+
+add-c : tie.Need-add-c
+add-c c = search needs
+
+shared-slice-read-c : tie.Need-shared-slice-read-c
+unfolding ends-field
+shared-slice-read-c c = not-last _ _ (c .before .before .before .pre .1) (c .before .before .before .pre .0) (c .before .if1 .left)
+
+returns-2 : tie.Need-returns-2
+unfolding ends-field
+returns-2 c = let s = c .before .before .before .before in
+    sym (letter-one _ _ (s .pre .1) (c .before .before .if1 .left) (not-last _ _ (s .pre .1) (s .pre .0) (c .before .before .if1 .left)) (c .if2 .taken))
+
+returns-3 : tie.Need-returns-3
+unfolding ends-field
+returns-3 c = let s = c .before .before .before .before in
+    sym (letter-more _ _ (s .pre .1) (c .before .before .if1 .left) (not-last _ _ (s .pre .1) (s .pre .0) (c .before .before .if1 .left)) (c .if2 .left))
+
+pub letter-spec : {M : Type 1} → statement M
+letter-spec =
+    tie.close (tie.spec shared-slice-read-b returns add-c shared-slice-read-c returns-2 returns-3)

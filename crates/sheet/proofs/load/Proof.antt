@@ -1,0 +1,126 @@
+use mathlib.Core.Path.{_≡_, refl, sym, ap, _∙_}
+use Prim.Native.Nat.{_-_}
+use native.Mathlib.Omega.{arith}
+use mathlib.Core.List.{_++_}
+use lib.ListN.{length, drop}
+use lib.Seq.{length-take-le}
+use Rattle.sheet.specs.Reading.{SheetText}
+use Rattle.sheet.proofs.LawsText.{text-of}
+use Rattle.sheet.proofs.LawsProgress.{size-of}
+use Rattle.sheet.proofs.LawsLoad.{Ahead, ahead-at-first, line-good, line-further, line-bad, too-few, all-read, no-sheet, cleared-length, cleared-blank, load-from}
+use borrow.Author.Needs.{needs}
+use Rattle.sheet.proofs.load.Statement.{statement}
+use Rattle.sheet.proofs.load.Tie as tie
+
+abbrev Inv-loop : tie.InvT-loop
+Inv-loop sheet words₀ at₀ line₀ words at line = Ahead sheet at line words₀ words
+
+abbrev μ-loop : tie.MeasureT-loop
+μ-loop sheet words₀ at₀ line₀ words at line = length sheet - at
+
+-- what was clear before the first line
+text : (c : tie.After-slice-known2 Inv-loop μ-loop) → SheetText (c .before .before .before .before .before .before .before .before .args .sheet .now)
+text c = text-of _ (sym (c .before .before .before .before .before .no-text .ensures) ∙ c .before .before .before .before .if1 .left)
+
+started : (c : tie.After-slice-known2 Inv-loop μ-loop) → length (c .before .before .clear-words .last .0 ++ drop 272 (c .before .before .before .before .before .before .before .before .args .words .now)) ≡ length (c .before .before .before .before .before .before .before .before .args .words .now)
+started c = cleared-length (c .before .before .before .before .before .before .before .before .args .words .now) _ (c .before .before .clear-words .ensures) (omega (arith, c .before .before .before .before .before .before .before .before .pre))
+
+no-text-requires : tie.Need-no-text-requires Inv-loop μ-loop
+no-text-requires c κs = tt
+
+returns : tie.Need-returns Inv-loop μ-loop
+returns c = no-sheet _ _ (sym (c .before .no-text .ensures) ∙ c .if1 .taken)
+
+slice-relend-prefix-clear-words : tie.Need-slice-relend-prefix-clear-words Inv-loop μ-loop
+slice-relend-prefix-clear-words c = omega arith
+
+slice-aggregate-clear-words : tie.Need-slice-aggregate-clear-words Inv-loop μ-loop
+slice-aggregate-clear-words c = sym (length-take-le 272 (c .before .before .before .before .before .args .words .now) (omega arith))
+
+clear-words-requires : tie.Need-clear-words-requires Inv-loop μ-loop
+clear-words-requires c κs = tt
+
+loop-holds : tie.Need-loop-holds Inv-loop μ-loop
+loop-holds c = let s = c .before .before .before .before .before .before .before .before in
+    ahead-at-first _ _ _ (sym (c .before .before .before .before .before .no-text .ensures) ∙ c .before .before .before .before .if1 .left) (cleared-blank (s .args .words .now) _ (c .before .before .clear-words .ensures) (omega (arith, s .pre))) refl
+
+read-line-requires : tie.Need-read-line-requires Inv-loop μ-loop
+read-line-requires c κs = (text (c .before .before .before), c .before .loop-test .taken, c .before .before .loop .inv .progress)
+
+enum-known-lined : tie.Need-enum-known-lined Inv-loop μ-loop
+enum-known-lined c = search needs
+
+enum-told : tie.Need-enum-told Inv-loop μ-loop
+enum-told c = search needs
+
+number-of-requires : tie.Need-number-of-requires Inv-loop μ-loop
+number-of-requires c κs = tt
+
+same-length : tie.Need-same-length Inv-loop μ-loop
+same-length c = c .before .before .before .before .before .read-line .ensures .same-length ∙ c .before .before .before .before .before .before .before .before .loop .inv .same-length ∙ started (c .before .before .before .before .before .before .before .before .before)
+
+returns-2 : tie.Need-returns-2 Inv-loop μ-loop
+returns-2 c = let told = c .before .enum-told .given in
+    let n : c .number-of .result ≡ told .0 .0 = rw (told .1) at (c .number-of .ensures) in
+    rw n (load-from _ (started (c .before .before .before .before .before .before .before .before .before)) (line-bad (c .before .before .before .before .before .before .before .before .loop .inv) (c .before .before .before .before .before .before .before .loop-test .taken) (told .0 .0) (rw (told .1) at (c .before .before .before .before .before .read-line .ensures))))
+
+add-line : tie.Need-add-line Inv-loop μ-loop
+add-line c = let t = text (c .before .before .before .before .before .before .before .before .before) in omega (arith, c .before .before .before .before .before .before .before .before .loop .inv .few, c .before .before .before .before .before .before .before .loop-test .taken)
+
+loop-less : tie.Need-loop-less Inv-loop μ-loop
+loop-less c = let told = c .before .lined .given in
+    omega (arith, line-further (c .before .before .before .before .before .before .before .before .loop .inv) (c .before .before .before .before .before .before .before .loop-test .taken) (told .0 .0) (rw (told .1) at (c .before .before .before .before .before .read-line .ensures)), c .before .before .before .before .before .before .before .loop-test .taken)
+
+loop-again : tie.Need-loop-again Inv-loop μ-loop
+loop-again c = let told = c .before .lined .given in
+    line-good (c .before .before .before .before .before .before .before .before .loop .inv) (c .before .before .before .before .before .before .before .loop-test .taken) (told .0 .0) (rw (told .1) at (c .before .before .before .before .before .read-line .ensures))
+
+slice-read-if2 : tie.Need-slice-read-if2 Inv-loop μ-loop
+slice-read-if2 c = omega (arith, size-of _ (c .before .before .loop .inv .progress))
+
+slice-read-if2-2 : tie.Need-slice-read-if2-2 Inv-loop μ-loop
+slice-read-if2-2 c = omega (arith, size-of _ (c .before .before .before .loop .inv .progress))
+
+slice-read-if2-3 : tie.Need-slice-read-if2-3 Inv-loop μ-loop
+slice-read-if2-3 c = omega (arith, size-of _ (c .before .before .before .before .loop .inv .progress))
+
+same-length-2 : tie.Need-same-length-2 Inv-loop μ-loop
+same-length-2 c = c .before .before .before .before .before .loop .inv .same-length ∙ started (c .before .before .before .before .before .before)
+
+returns-3 : tie.Need-returns-3 Inv-loop μ-loop
+returns-3 c = load-from _ (started (c .before .before .before .before .before .before)) (too-few (c .before .before .before .before .before .loop .inv) (c .before .before .before .before .loop-test .left) (c .if2 .taken))
+
+same-length-3 : tie.Need-same-length-3 Inv-loop μ-loop
+same-length-3 c = c .before .before .before .before .before .loop .inv .same-length ∙ started (c .before .before .before .before .before .before)
+
+returns-4 : tie.Need-returns-4 Inv-loop μ-loop
+returns-4 c = load-from _ (started (c .before .before .before .before .before .before)) (all-read (c .before .before .before .before .before .loop .inv) (c .before .before .before .before .loop-test .left) (c .if2 .left))
+
+pub load-spec : {M : Type 1} → statement M
+load-spec =
+    tie.close
+    (tie.spec
+    Inv-loop
+    μ-loop
+    no-text-requires
+    returns
+    slice-relend-prefix-clear-words
+    slice-aggregate-clear-words
+    clear-words-requires
+    loop-holds
+    read-line-requires
+    enum-known-lined
+    enum-told
+    number-of-requires
+    same-length
+    returns-2
+    add-line
+    loop-less
+    loop-again
+    slice-read-if2
+    slice-read-if2-2
+    slice-read-if2-3
+    same-length-2
+    returns-3
+    same-length-3
+    returns-4)

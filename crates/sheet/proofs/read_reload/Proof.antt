@@ -1,0 +1,76 @@
+use Rattle.records.specs.Verdicts.{reload-paired}
+use mathlib.Core.Path.{_≡_, refl, sym, _∙_}
+use mathlib.Core.Bool.{false, not, _||_}
+use Prim.Native.Nat.{_<_, _≤_}
+use native.Mathlib.Omega.{arith}
+use lib.Dec.{eqb, leb}
+use lib.ListN.{getD}
+use Rattle.paper.specs.Sheet.{reload}
+use Rattle.paper.specs.Refusals.{step-record, two-numbers-of}
+use Rattle.fields.specs.Fields.{fields-behind}
+use Rattle.records.specs.Records.{Told}
+use Rattle.steps.specs.Actions.{step-of}
+use Rattle.sheet.specs.Loaded.{sheet-of}
+use Rattle.sheet.proofs.LawsJudged.{pairs-alike}
+use Rattle.sheet.proofs.LawsProgress.{size-of, counted-of}
+use Rattle.sheet.proofs.LawsActions.{reload-fits}
+use Rattle.sheet.proofs.LawsLines.{told-most, told-inside}
+use borrow.Author.Needs.{needs}
+use Rattle.sheet.proofs.read_reload.Statement.{statement}
+use Rattle.sheet.proofs.read_reload.Tie as tie
+
+told : (c : tie.After-pair-line) → Told (sheet-of (c .before .before .before .before .before .args .words .now)) (c .before .before .before .before .before .args .sheet .now) (c .before .before .before .before .before .args .at) (two-numbers-of reload (fields-behind (c .before .before .before .before .before .args .sheet .now) (c .before .before .before .before .before .args .at))) (c .pair-line .result .number) (c .pair-line .result .next) (step-record (reload (c .pair-line .result .a) (c .pair-line .result .b)))
+told c = c .pair-line .ensures .0 (sheet-of (c .before .before .before .before .before .args .words .now)) reload (reload-paired (counted-of _))
+
+slice-read-pair-line : tie.Need-slice-read-pair-line
+slice-read-pair-line c = omega (arith, size-of _ (c .before .before .before .pre .1))
+
+cast-pair-line : tie.Need-cast-pair-line
+cast-pair-line c = omega (arith, c .slice-known2 .given 0)
+
+slice-read-pair-line-2 : tie.Need-slice-read-pair-line-2
+slice-read-pair-line-2 c = omega (arith, size-of _ (c .before .before .before .before .pre .1))
+
+cast-pair-line-2 : tie.Need-cast-pair-line-2
+cast-pair-line-2 c = omega (arith, c .slice-known3 .given 1)
+
+pair-line-requires : tie.Need-pair-line-requires
+pair-line-requires c κs = c .before .before .before .before .pre .0
+
+cast-reg : tie.Need-cast-reg
+cast-reg c = search needs
+
+cast-slot : tie.Need-cast-slot
+cast-slot c = search needs
+
+step-line-requires : tie.Need-step-line-requires
+step-line-requires c κs = let t = c .before .before .before in
+    let s = c .before .before .before .before .before .before .before .before in
+    (s .pre .1, told-most (told t), told-inside (told t) (s .pre .0 .size), λ z. let w = t .pair-line .ensures .1 z in reload-fits _ (s .pre .1) _ _ (w .0) (w .1))
+
+same-length : tie.Need-same-length
+unfolding step-of
+same-length c = let t = c .before .before .before .before .before .before in
+    let s = c .before .before .before .before .before .before .before .before .before .before .before in
+    c .before .before .step-line .ensures .lined-step _ _ _ (pairs-alike (fields-behind (s .args .sheet .now) (s .args .at)) reload _) (told t) .same-length
+
+returns : tie.Need-returns
+unfolding step-of
+returns c = let t = c .before .before .before .before .before .before in
+    let s = c .before .before .before .before .before .before .before .before .before .before .before in
+    c .before .before .step-line .ensures .lined-step _ _ _ (pairs-alike (fields-behind (s .args .sheet .now) (s .args .at)) reload _) (told t)
+
+pub read-reload-spec : {M : Type 1} → statement M
+read-reload-spec =
+    tie.close
+    (tie.spec
+    slice-read-pair-line
+    cast-pair-line
+    slice-read-pair-line-2
+    cast-pair-line-2
+    pair-line-requires
+    cast-reg
+    cast-slot
+    step-line-requires
+    same-length
+    returns)

@@ -1,0 +1,65 @@
+use mathlib.Core.Path.{_≡_, sym, _∙_}
+use mathlib.Core.Bool.{false}
+use Prim.Native.Nat.{_<_, _≤_}
+use native.Mathlib.Omega.{arith}
+use borrow.Author.Tests.{eqb-false, leb-false}
+use lib.Dec.{eqb, leb}
+use lib.ListN.{getD}
+use Rattle.sheet.proofs.LawsJudged.{lowest-zero}
+use Rattle.sheet.proofs.LawsProgress.{size-of, begun-by-opened}
+use Rattle.sheet.proofs.LawsLines.{step-refused, step-accepted}
+use borrow.Author.Needs.{needs}
+use Rattle.sheet.proofs.step_line.Statement.{statement}
+use Rattle.sheet.proofs.step_line.Tie as tie
+
+-- the line breaks nothing, stands in its place, and there is room for the step
+clear : (c : tie.Else1) → (c .before .before .before .before .before .args .number ≡ 0) × (eqb (getD (c .before .before .before .before .before .args .words .now) 5 0) 0 ≡ false) × (leb 1024 (getD (c .before .before .before .before .before .args .words .now) 6 0) ≡ false)
+clear c = lowest-zero _ _ _ (sym (c .before .lowest .ensures) ∙ c .if1 .left)
+
+slice-read-lowest : tie.Need-slice-read-lowest
+slice-read-lowest c = omega (arith, size-of _ (c .before .before .pre .0))
+
+slice-read-lowest-2 : tie.Need-slice-read-lowest-2
+slice-read-lowest-2 c = omega (arith, size-of _ (c .before .before .before .pre .0))
+
+cast-lowest : tie.Need-cast-lowest
+cast-lowest c = omega (arith, c .slice-known3 .given 6)
+
+lowest-requires : tie.Need-lowest-requires
+lowest-requires c κs = c .before .before .before .pre .1
+
+returns : tie.Need-returns
+returns c = let s = c .before .before .before .before .before in
+    record { lined-step = λ read sheet at alike told. step-refused _ (s .pre .0) alike told _ (c .before .lowest .ensures) (c .if1 .taken) }
+
+add-step-requires : tie.Need-add-step-requires
+add-step-requires c κs = let s = c .before .before .before .before .before .before in
+    let z = clear (c .before) in
+    let opened = eqb-false _ _ (z .1) in
+    (begun-by-opened _ (s .pre .0) opened, omega (arith, opened), leb-false _ _ (z .2), s .pre .3 (z .0))
+
+add-t11 : tie.Need-add-t11
+add-t11 c =
+    let e = c .before .before .before .before in
+    omega (arith, e .before .before .before .before .before .pre .2 (clear e .0))
+
+same-length : tie.Need-same-length
+same-length c = c .before .before .add-step .ensures .same-length
+
+returns-2 : tie.Need-returns-2
+returns-2 c = let e = c .before .before .before .before in
+    record { lined-step = λ read sheet at alike told. step-accepted _ (e .before .before .before .before .before .pre .0) alike told _ (c .before .before .add-step .ensures) (sym (e .before .lowest .ensures) ∙ e .if1 .left) }
+
+pub step-line-spec : {M : Type 1} → statement M
+step-line-spec =
+    tie.close
+    (tie.spec
+    slice-read-lowest
+    slice-read-lowest-2
+    cast-lowest
+    lowest-requires
+    returns
+    add-step-requires
+    add-t11
+    same-length
+    returns-2)
