@@ -1,8 +1,8 @@
 -- The table's rule, once for the whole table, and what each function of the crate shows of its result.
 use mathlib.Core.Path.{_≡_, refl, sym, ap, _∙_}
 use mathlib.Core.Bool.{Bool, true, false, cond, not, _&&_, _||_}
-use mathlib.Core.List.{List, [], _∷_, map}
-use Prim.Native.Nat.{ℕ, zero, suc, _+_, _*_, _/_, _%_, _≤_, _<_}
+use mathlib.Core.List.{List, [], _∷_}
+use Prim.Native.Nat.{ℕ, zero, suc, _+_, _*_, _/_, _%_, _<_}
 use native.Mathlib.Nat.{zero-add, suc-add, add-suc, add-zero, not-suc-le-zero}
 use native.Mathlib.Omega.{arith}
 use borrow.Author.Tests.{eq-eqb, ne-eqb, eqb-true, eqb-false}
@@ -10,12 +10,12 @@ use lib.Dec.{T, eqb, eqb→eq}
 use lib.ListN.{length, getD}
 use Rattle.paper.specs.Text.{Name}
 use Rattle.paper.specs.Cells as paper
-use Rattle.paper.specs.Cells.{Cell, absent, unknown, conflicted, named, pick, meet-names}
+use Rattle.paper.specs.Cells.{Cell, absent, unknown, conflicted, named, meet-names}
 use Rattle.paper.specs.declared.Rule.{Rule}
 use Rattle.paper.specs.declared.Rule.the-variants.{Old, House}
 use Rattle.cells.specs.Packed.{name-of-word, marked, of-kind, cell-of}
 use Rattle.cells.specs.Meeting.{rule-index, meet-table, winner, meet-named, meet-word}
-use Rattle.cells.specs.Laws.{pick-name, pick-other, same-name, other-name, made, is-named, unnamed}
+use Rattle.cells.specs.Laws.{pick-name, pick-other, same-name, made, is-named, unnamed}
 
 -- P of each entry of a list and its place, counted from i
 abbrev Every : {A : Type 0} → (ℕ → A → Type 0) → ℕ → List A → Type 0

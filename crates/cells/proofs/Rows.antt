@@ -2,7 +2,7 @@
 use mathlib.Core.Path.{_≡_, refl, sym, ap, ap₂, _∙_}
 use mathlib.Core.Bool.{Bool, true, false, cond, not, _||_}
 use mathlib.Core.List.{List, [], _∷_, map}
-use Prim.Native.Nat.{ℕ, zero, suc, _+_, _-_, _*_, _/_, _%_, _^_, _≤_, _<_}
+use Prim.Native.Nat.{ℕ, zero, suc, _+_, _-_, _/_, _%_, _^_, _≤_, _<_}
 use native.Mathlib.Nat.{zero-add, pow-suc, div-div-eq-div-mul, mul-comm, div-one, pow-zero, add-zero}
 use native.Mathlib.Numerals.{add-one}
 use native.Mathlib.Omega.{arith}
@@ -19,7 +19,7 @@ use Rattle.paper.specs.Text.{Name, real}
 use Rattle.paper.specs.Sheet.{Sheet, listed}
 use Rattle.paper.specs.Cells.{Cell, absent, named}
 use Rattle.paper.specs.Cells as paper
-use Rattle.paper.specs.Steps.{State, cell-at, store-at, everywhere, placed, safepoint-row, row-of, unfilled, entry-state, unreached-state}
+use Rattle.paper.specs.Steps.{cell-at, store-at, everywhere, placed, safepoint-row, row-of, unfilled, entry-state, unreached-state}
 use Rattle.paper.specs.Runs.{both, meet-states}
 use Rattle.paper.specs.declared.Rule.{Rule}
 use Rattle.paper.specs.declared.Rule.the-variants.{Old, House}

@@ -1,15 +1,15 @@
 -- What packed words mean, for those who pack and unpack them.
-use mathlib.Core.Path.{_≡_, refl, sym, ap, _∙_}
+use mathlib.Core.Path.{_≡_, refl, ap, _∙_}
 use mathlib.Core.Bool.{Bool, true, false, cond}
 use mathlib.Core.List.{List, [], _∷_, map}
-use Prim.Native.Nat.{ℕ, zero, suc, _+_, _-_, _*_, _/_, _%_, _≤_, _<_}
+use Prim.Native.Nat.{ℕ, zero, suc, _-_, _/_, _%_, _<_}
 use native.Mathlib.Omega.{arith}
-use borrow.Author.Tests.{ltb-true, ltb-false}
+use borrow.Author.Tests.{ltb-false}
 use lib.Dec.{ltb}
-use lib.ListN.{length, getD, set, take, List·getD-map}
+use lib.ListN.{getD, set, take, List·getD-map}
 use lib.Seq.{take-nil, getD-take}
 use Rattle.lists.specs.Maps.{map-set, take-set}
-use Rattle.paper.specs.Text.{Name, real, virtual, name-same}
+use Rattle.paper.specs.Text.{real, virtual, name-same}
 use Rattle.paper.specs.Cells.{Cell, absent, unknown, conflicted, named, pick}
 use Rattle.paper.specs.Steps.{State, cell-at, store-at}
 use Rattle.cells.specs.Packed.{name-of-word, marked, of-kind, cell-of}

@@ -1,12 +1,12 @@
 -- A store seen through a map and a prefix; a region after a change of that region.
-use mathlib.Core.Path.{_≡_, refl, sym, ap, _∙_}
+use mathlib.Core.Path.{_≡_, refl, sym, ap}
 use mathlib.Core.List.{List, [], _∷_, map}
 use Prim.Native.Nat.{ℕ, zero, suc, _+_, _≤_}
 use native.Mathlib.Nat.{zero-add}
 use native.Mathlib.Numerals.{add-one}
 use native.Mathlib.Omega.{arith}
-use lib.ListN.{length, getD, set, take, drop}
-use lib.Seq.{take-nil, drop-nil}
+use lib.ListN.{length, getD, set, take}
+use lib.Seq.{take-nil}
 use Rattle.lists.specs.Over.{over, over-none, getD-over-above}
 use Rattle.lists.specs.Region.{region}
 

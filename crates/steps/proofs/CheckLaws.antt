@@ -2,8 +2,8 @@
 use mathlib.Core.Path.{_≡_, refl, sym, ap, ap₂, _∙_}
 use mathlib.Core.Bool.{Bool, true, false, cond}
 use mathlib.Core.List.{List, [], _∷_, map}
-use mathlib.Core.Option.{Option, none, some}
-use Prim.Native.Nat.{ℕ, zero, suc, _+_, _-_, _/_, _%_, _^_, _≤_, _<_}
+use mathlib.Core.Option.{some}
+use Prim.Native.Nat.{ℕ, _+_, _-_, _/_, _%_, _^_, _≤_, _<_}
 use native.Mathlib.Nat.{zero-add}
 use native.Mathlib.Omega.{arith}
 use borrow.Author.Tests.{eq-eqb, ne-eqb, eqb-true, eqb-false}
@@ -13,10 +13,9 @@ use lib.Count.{trailingZeros}
 use Rattle.lists.specs.Region.{region}
 use Rattle.lists.specs.Regions.{region-cons, region-none, All, all-region}
 use Rattle.lists.specs.Bits.{set-bits, no-bits, lowest, trailing-below, set-bits-below}
-use Rattle.paper.specs.Sheet.{Operand}
-use Rattle.paper.specs.Cells.{Cell, absent, named, pick}
+use Rattle.paper.specs.Cells.{named}
 use Rattle.paper.specs.Steps as paper
-use Rattle.paper.specs.Steps.{Fault, State, slot, get, location-of, first-of, check-use, check-uses, check-change, check-slot, check-slots}
+use Rattle.paper.specs.Steps.{slot, get, location-of, first-of, check-use, check-uses, check-change, check-slot, check-slots}
 use Rattle.cells.specs.Packed.{name-of-word, marked, cell-of}
 use Rattle.cells.specs.States.{state-of}
 use Rattle.cells.specs.Laws.{pick-name, pick-other, same-name, is-named, unnamed, state-cell}

@@ -1,11 +1,10 @@
 -- The effects: defs one after the other, a step, and the steps of a block.
-use mathlib.Core.Path.{_≡_, refl, sym, ap, ap₂, _∙_}
-use mathlib.Core.Bool.{Bool, true, false}
+use mathlib.Core.Path.{_≡_, refl, _∙_}
+use mathlib.Core.Bool.{Bool}
 use mathlib.Core.List.{List, [], _∷_, map}
-use mathlib.Core.Option.{Option, none, some}
-use Prim.Native.Nat.{ℕ, zero, suc, _+_, _-_, _*_, _/_, _%_, _^_, _≤_, _<_}
+use Prim.Native.Nat.{ℕ, zero, suc, _+_, _-_, _/_, _%_, _≤_, _<_}
 use native.Mathlib.Omega.{arith}
-use borrow.Author.Tests.{eq-eqb, ne-eqb}
+use borrow.Author.Tests.{ne-eqb}
 use lib.ListN.{length, getD, set}
 use Rattle.lists.specs.Region.{region}
 use Rattle.lists.specs.Regions.{region-cons, region-none, All, all-region}
@@ -13,9 +12,9 @@ use Rattle.lists.specs.Bits.{set-bits}
 use Rattle.paper.specs.Text.{Name}
 use Rattle.paper.specs.Sheet as sheet
 use Rattle.paper.specs.Sheet.{Operand}
-use Rattle.paper.specs.Cells.{Cell, named, overwritten, copied, house-changed, old-changed}
+use Rattle.paper.specs.Cells.{named, overwritten, copied, house-changed, old-changed}
 use Rattle.paper.specs.Steps as paper
-use Rattle.paper.specs.Steps.{State, register, slot, get, put, copy, cell-at, store-at, location-of, everywhere, placed, safepoint-row, old-define, house-define, old-effect, house-effect, effect, effects}
+use Rattle.paper.specs.Steps.{State, get, put, copy, cell-at, store-at, location-of, everywhere, placed, safepoint-row, old-define, house-define, old-effect, house-effect, effect, effects}
 use Rattle.paper.specs.declared.Rule.{Rule}
 use Rattle.paper.specs.declared.Rule.the-variants.{Old, House}
 use Rattle.cells.specs.Packed.{name-of-word, marked, cell-of}
@@ -24,7 +23,6 @@ use Rattle.cells.specs.Laws.{made, state-cell, state-store}
 use Rattle.steps.specs.Layout.{defs-from}
 use Rattle.steps.specs.Actions.{no-register, register-of, operand-of, operands, step-of, action-at, steps-at}
 use Rattle.steps.specs.Defs.{cleared-of, define-word, define-words}
-use Rattle.steps.specs.declared.Action.{Action}
 
 -- one def: t is what the rule leaves of the state before the register is written
 pub defined : (counts : List ℕ) (rule : Rule) (w r : ℕ) (S : State) (t : List (List ℕ)) → r ≡ w / 1024 → (w / 1024 ≡ no-register → ⊥)

@@ -10,12 +10,10 @@ use lib.ListN.{length, getD}
 use Rattle.lists.specs.Over.{over, getD-over-in}
 use Rattle.lists.specs.Regions.{region-cons, region-none}
 use Rattle.lists.specs.Kept.{Kept, kept-over}
-use Rattle.paper.specs.Text.{Name}
-use Rattle.paper.specs.Sheet.{Operand}
 use Rattle.paper.specs.Report.{unallocated, first-list}
 use Rattle.cells.specs.Packed.{name-of-word, marked}
 use Rattle.cells.specs.Laws.{same-name}
-use Rattle.steps.specs.Layout.{most-steps, step-base, step-words, operand-base, operand-words, all-words}
+use Rattle.steps.specs.Layout.{most-steps, step-base, step-words, all-words}
 use Rattle.steps.specs.Actions.{no-register, register-of, operand-of, operands, action-of, action-at, packed, Packs}
 use Rattle.steps.specs.Faults.{some-in}
 use Rattle.steps.specs.declared.Action.{Action}

@@ -1,9 +1,8 @@
 -- What a check answers, and the paper's fault that it stands for.
-use mathlib.Core.Bool.{Bool, true, false, cond}
+use mathlib.Core.Bool.{Bool, true, false}
 use mathlib.Core.List.{List, [], _∷_}
 use mathlib.Core.Option.{Option, none, some}
-use Prim.Native.Nat.{ℕ}
-use Rattle.paper.specs.Steps.{Fault, missing-allocation-for-reg, unknown-value-in-reg, incorrect-value-in-reg, unknown-value-in-slot, incorrect-value-in-slot, stack-map-specifies-non-ref-slot, stack-map-specifies-undefined-slot}
+use Rattle.paper.specs.Steps.{Fault, unknown-value-in-reg, incorrect-value-in-reg, unknown-value-in-slot, incorrect-value-in-slot, stack-map-specifies-non-ref-slot, stack-map-specifies-undefined-slot}
 use Rattle.cells.specs.Packed.{name-of-word}
 use Rattle.steps.specs.Actions.{register-of}
 use Rattle.steps.specs.declared.CheckerError.{CheckerError}

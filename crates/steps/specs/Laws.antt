@@ -1,11 +1,10 @@
 -- What a reader, a run and a report need of steps in lent words: a change elsewhere leaves a step as it is, and a sheet without
 -- a missing allocation is in range.
-use mathlib.Core.Path.{_≡_, refl, sym, ap, ap₂, _∙_}
+use mathlib.Core.Path.{_≡_, refl}
 use mathlib.Core.Bool.{Bool, true, false}
 use mathlib.Core.Logic.{_⊎_, inl, inr, ⊎-elim}
 use mathlib.Core.List.{List, [], _∷_, map}
-use mathlib.Core.Option.{Option, none, some}
-use Prim.Native.Nat.{ℕ, zero, suc, _+_, _-_, _*_, _/_, _%_, _^_, _≤_, _<_}
+use Prim.Native.Nat.{ℕ, _+_, _-_, _*_, _/_, _^_, _≤_, _<_}
 use native.Mathlib.Nat.{add-zero}
 use native.Mathlib.Omega.{arith}
 use borrow.Author.Tests.{eq-eqb}
@@ -16,8 +15,8 @@ use Rattle.lists.specs.Kept.{Kept, kept-below, kept-above}
 use Rattle.lists.specs.Region.{region}
 use Rattle.lists.specs.Regions.{All, all-at}
 use Rattle.paper.specs.Report.{unallocated, first-list, missing-names}
-use Rattle.steps.specs.Layout.{most-steps, step-base, step-words, operand-base, operand-words, defs-from, state-base, all-words}
-use Rattle.steps.specs.Actions.{no-register, register-of, operand-of, operands, step-of, action-of, action-at, steps-at, Within, Ranged, InRange, RoomFor, OperandsIn}
+use Rattle.steps.specs.Layout.{most-steps, step-base, step-words, operand-words, defs-from, all-words}
+use Rattle.steps.specs.Actions.{no-register, register-of, operand-of, operands, step-of, action-at, Ranged, InRange, RoomFor, OperandsIn}
 use Rattle.steps.specs.declared.Action.{Action}
 use Rattle.steps.specs.declared.Action.the-variants.{Spill, Reload, Move, Change, Operation, Safepoint}
 

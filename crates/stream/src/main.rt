@@ -1,0 +1,81 @@
+// For comparison with another checker: standard input is frames, each a sheet. For each sheet it writes four frames: the old
+// answer, the house answer, the old entry states and the house entry states.
+use frames::Frame;
+use paper::Rule;
+
+// The two answers to one sheet; whether both could be written.
+fn write_answers(
+    sheet: &[u8],
+    text: &mut [u8],
+    words: &mut [u16; 32768],
+    queue: &mut [u8; 16385],
+) -> bool {
+    let old = checker::answer_text(Rule::Old, sheet, text, words, queue);
+    if !frames::write(&text[..old]) {
+        return false;
+    }
+    let house = checker::answer_text(Rule::House, sheet, text, words, queue);
+    frames::write(&text[..house])
+}
+
+// Its entry states under both rules; whether both could be written.
+fn write_states(
+    sheet: &[u8],
+    text: &mut [u8],
+    words: &mut [u16; 32768],
+    queue: &mut [u8; 16385],
+) -> bool {
+    let old = states::entry_states(Rule::Old, sheet, text, words, queue);
+    if !frames::write(&text[..old]) {
+        return false;
+    }
+    let house = states::entry_states(Rule::House, sheet, text, words, queue);
+    frames::write(&text[..house])
+}
+
+// The four frames of one sheet; whether to go on.
+fn write_frames(
+    sheet: &[u8],
+    text: &mut [u8],
+    words: &mut [u16; 32768],
+    queue: &mut [u8; 16385],
+) -> bool {
+    if !write_answers(sheet, text, words, queue) {
+        os::fail(b"stream: standard output");
+        return false;
+    }
+    if !write_states(sheet, text, words, queue) {
+        os::fail(b"stream: standard output");
+        return false;
+    }
+    true
+}
+
+// One frame: whether to go on.
+fn one(
+    sheet: &mut [u8],
+    text: &mut [u8],
+    words: &mut [u16; 32768],
+    queue: &mut [u8; 16385],
+) -> bool {
+    let frame = frames::read(sheet);
+    match frame {
+        Frame::Read(length) => write_frames(&sheet[..length], text, words, queue),
+        Frame::End => false,
+        Frame::Malformed => {
+            io::write_all(libc::STDERR_FILENO, b"stream: malformed frame\n");
+            false
+        }
+    }
+}
+
+fn main() {
+    let mut sheet = [0u8; 70000];
+    let mut text = [0u8; 32784];
+    let mut words = [0u16; 32768];
+    let mut queue = [0u8; 16385];
+    let mut turns = u64::MAX;
+    while turns > 0 && one(&mut sheet, &mut text, &mut words, &mut queue) {
+        turns -= 1;
+    }
+}
