@@ -1,3 +1,6 @@
+use mathlib.Core.Path.{_≡_, sym}
+use native.Mathlib.Omega.{arith}
+use lib.ListN.{length}
 use borrow.Author.Needs.{needs}
 use Rattle.stream.proofs.main.Statement.{statement}
 use Rattle.stream.proofs.main.Tie as tie
@@ -6,14 +9,14 @@ use Rattle.stream.proofs.main.Lts as lts
 use Rattle.stream.proofs.one.Reads as one-reads
 
 abbrev Inv-loop : tie.InvT-loop
-Inv-loop sheet₀ text₀ words₀ queue₀ turns₀ sheet text words queue turns = ?
+Inv-loop sheet₀ text₀ words₀ queue₀ turns₀ sheet text words queue turns = (length sheet ≡ 70000) × (length text ≡ 32784)
 
 abbrev μ-loop : tie.MeasureT-loop
-μ-loop sheet₀ text₀ words₀ queue₀ turns₀ sheet text words queue turns = ?
+μ-loop sheet₀ text₀ words₀ queue₀ turns₀ sheet text words queue turns = turns
 
 -- src/main.rt:78:5
 loop-holds : tie.Need-loop-holds Inv-loop μ-loop
-loop-holds c = ?
+loop-holds c = search needs
 
 -- src/main.rt:78:28
 slice-aggregate-one : tie.Need-slice-aggregate-one Inv-loop μ-loop
@@ -37,15 +40,15 @@ loop-less c = search needs
 
 -- src/main.rt:78:5
 loop-again : tie.Need-loop-again Inv-loop μ-loop
-loop-again c = ?
+loop-again c = search needs
 
 -- src/main.rt:72:1
 returns : tie.Need-returns Inv-loop μ-loop
-returns c = ?
+returns c = search needs
 
 -- src/main.rt:72:1
 returns-2 : tie.Need-returns-2 Inv-loop μ-loop
-returns-2 c = ?
+returns-2 c = search needs
 
 pub main-spec : {M : Type 1} → statement M
 main-spec =

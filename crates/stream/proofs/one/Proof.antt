@@ -1,3 +1,5 @@
+use native.Mathlib.Omega.{arith}
+use lib.ListN.{length-take}
 use borrow.Author.Needs.{needs}
 use Rattle.stream.proofs.one.Statement.{statement}
 use Rattle.stream.proofs.one.Tie as tie
@@ -17,11 +19,11 @@ enum-known-frame c = search needs
 
 -- src/main.rt:63:45
 slice-reshare-prefix-write-frames : tie.Need-slice-reshare-prefix-write-frames
-slice-reshare-prefix-write-frames c = search needs
+slice-reshare-prefix-write-frames c = omega (arith, rw (c .before .frame .given .1) at (c .before .before .before .before .before .read .ensures))
 
 -- src/main.rt:63:45
 slice-aggregate-write-frames : tie.Need-slice-aggregate-write-frames
-slice-aggregate-write-frames c = search needs
+slice-aggregate-write-frames c = simp length-take (omega (arith, rw (c .before .before .frame .given .1) at (c .before .before .before .before .before .before .read .ensures)))
 
 -- src/main.rt:63:32
 write-frames-requires : tie.Need-write-frames-requires
