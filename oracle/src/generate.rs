@@ -7,7 +7,7 @@ use crate::house::{house_effect, house_faults};
 use crate::plain::{old_effect, old_faults, Cell, State, Wrong};
 use crate::random::Random;
 use crate::report::Fault;
-use crate::sheet::{Block, Name, Operand, Sheet, Step, STEPS_LIMIT};
+use crate::sheet::{read, Block, Name, Operand, Sheet, Step, OPERANDS_LIMIT, STEPS_LIMIT};
 
 pub const KINDS: [&str; 11] = [
     "small", "tangled", "knotted", "ordered", "large", "allocated", "repaired", "wrong-step",
@@ -71,20 +71,68 @@ pub fn small(random: &mut Random) -> Sheet {
     sheet
 }
 
+/// The least and the most of each count of a sheet, the weights of 0, 1, .. successors, and how much a
+/// block does at most.
+struct Size {
+    regs: (usize, usize),
+    slots: (usize, usize),
+    names: (usize, usize),
+    blocks: (usize, usize),
+    succs: &'static [usize],
+    acts: usize,
+}
+
+const TANGLED: Size = Size {
+    regs: (0, 3),
+    slots: (1, 3),
+    names: (1, 4),
+    blocks: (2, 10),
+    succs: &[4, 16, 36, 24, 12, 8],
+    acts: 1,
+};
+
+/// The names are as many as their home slots.
+const ALLOCATED: Size = Size {
+    regs: (1, 5),
+    slots: (1, 6),
+    names: (1, 6),
+    blocks: (1, 8),
+    succs: &[10, 40, 35, 15],
+    acts: 6,
+};
+
+/// The functions that bench/ times, but for their successors.
+const TIMED: Size = Size {
+    regs: (8, 32),
+    slots: (8, 32),
+    names: (8, 64),
+    blocks: (40, 64),
+    succs: &[3, 40, 45, 12],
+    acts: 8,
+};
+
+fn some(random: &mut Random, (low, high): (usize, usize)) -> usize {
+    random.within(low, high)
+}
+
 /// Dense graphs, few cells, many ownership changes and safepoints.
 pub fn tangled(random: &mut Random) -> Sheet {
+    tangled_of(random, &TANGLED)
+}
+
+fn tangled_of(random: &mut Random, size: &Size) -> Sheet {
     let mut sheet = Sheet {
-        regs: random.within(0, 3) as u32,
-        slots: random.within(1, 3) as u32,
-        vregs: random.within(1, 4) as u32,
+        regs: some(random, size.regs) as u32,
+        slots: some(random, size.slots) as u32,
+        vregs: some(random, size.names) as u32,
         ..Sheet::default()
     };
     choose_reftyped(random, &mut sheet);
-    let blocks = random.within(2, 10);
-    graph(random, &mut sheet, blocks, &[4, 16, 36, 24, 12, 8]);
+    let blocks = some(random, size.blocks);
+    graph(random, &mut sheet, blocks, size.succs);
     let shape = Shape {
         letters: *random.pick(&[[12, 16, 10, 6, 36, 20], [20, 20, 14, 6, 20, 20]]),
-        steps: *random.pick(&[1, 2, 3]),
+        steps: *random.pick(&[1, 2, 3]) * size.acts,
         operands: 2,
         follow: *random.pick(&[20, 50, 80]),
         missing: 0,
@@ -386,16 +434,20 @@ fn holds(cell: Cell) -> bool {
 /// A correct allocation: every name has a home slot, is spilled there whenever it is defined, and is
 /// reloaded when a block wants it.
 pub fn allocated(random: &mut Random) -> Sheet {
-    let names = random.within(1, 6) as u32;
+    allocated_of(random, &ALLOCATED)
+}
+
+fn allocated_of(random: &mut Random, size: &Size) -> Sheet {
+    let names = some(random, size.slots) as u32;
     let mut sheet = Sheet {
-        regs: random.within(1, 5) as u32,
+        regs: some(random, size.regs) as u32,
         slots: names,
         vregs: names,
         ..Sheet::default()
     };
     choose_reftyped(random, &mut sheet);
-    let blocks = random.within(1, 8);
-    graph(random, &mut sheet, blocks, &[10, 40, 35, 15]);
+    let blocks = some(random, size.blocks);
+    graph(random, &mut sheet, blocks, size.succs);
     let entry = sheet.entry as usize;
     for block in 0..blocks {
         let mut maker = Maker { sheet: &sheet, steps: Vec::new(), cache: Vec::new() };
@@ -404,7 +456,7 @@ pub fn allocated(random: &mut Random) -> Sheet {
                 maker.define(random, name);
             }
         }
-        for _ in 0..random.within(0, 6) {
+        for _ in 0..random.within(0, size.acts) {
             maker.act(random);
         }
         let steps = maker.steps;
@@ -479,6 +531,9 @@ impl<'a> Maker<'a> {
         let reg = self.fetch(random, name);
         let mut uses = vec![Operand { name: Name::Virtual(name), reg: Some(reg) }];
         for &(reg, other) in &self.cache {
+            if uses.len() == OPERANDS_LIMIT {
+                break;
+            }
             if random.percent(40) && uses.iter().all(|o| o.name != Name::Virtual(other)) {
                 uses.push(Operand { name: Name::Virtual(other), reg: Some(reg) });
             }
@@ -582,7 +637,12 @@ fn mend(sheet: &mut Sheet, fault: &Fault) {
 
 /// An accepted sheet with one thing changed.
 pub fn wrong_step(random: &mut Random) -> Sheet {
-    let mut sheet = if random.percent(50) { allocated(random) } else { repaired(random) };
+    let sheet = if random.percent(50) { allocated(random) } else { repaired(random) };
+    changed(random, sheet)
+}
+
+/// The sheet with one thing changed.
+fn changed(random: &mut Random, mut sheet: Sheet) -> Sheet {
     let block = random.below(sheet.blocks.len());
     let blocks = sheet.blocks.len() as u32;
     let counts = (sheet.regs, sheet.slots, sheet.vregs);
@@ -610,6 +670,37 @@ pub fn wrong_step(random: &mut Random) -> Sheet {
         _ => disturb(random, &mut b.steps[at], other),
     }
     sheet
+}
+
+/// The kinds of the functions that bench/ times.
+pub const TIMED_KINDS: [&str; 3] = ["allocated", "wrong-step", "tangled"];
+
+/// A function that bench/ times, of the kinds in turn. A wrong step is one that the old rule reports.
+pub fn timed(seed: u64, index: u64) -> Sheet {
+    let random = &mut Random::of(seed, index);
+    let kind = TIMED_KINDS[index as usize % TIMED_KINDS.len()];
+    loop {
+        let sheet = match kind {
+            "tangled" => tangled_of(random, &Size { succs: TANGLED.succs, ..TIMED }),
+            "allocated" => allocated_of(random, &TIMED),
+            _ => {
+                let sheet = allocated_of(random, &TIMED);
+                changed(random, sheet)
+            }
+        };
+        let harmless = |sheet| old_faults(sheet, Wrong::Nothing).0.is_empty();
+        if is_timed(&sheet) && (kind != "wrong-step" || !harmless(&sheet)) {
+            return sheet;
+        }
+    }
+}
+
+/// Are 40 blocks or more reached, is the sheet not refused, and does no step lack an allocation? At one
+/// that does either side would stop before it checks.
+fn is_timed(sheet: &Sheet) -> bool {
+    let reached = crate::plain::reached(sheet).into_iter().filter(|reached| *reached).count();
+    let mut steps = sheet.blocks.iter().flat_map(|block| &block.steps);
+    reached >= TIMED.blocks.0 && steps.all(no_missing) && read(&sheet.text()).is_ok()
 }
 
 /// A register, a slot and a virtual name within the counts (0 where there is none).

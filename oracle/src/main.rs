@@ -40,6 +40,7 @@ const USAGE: &str = "usage:
   oracle drive N SEED COMMAND        compares COMMAND, which speaks frames, on N sheets
   oracle self-test N SEED            the tests of the tests
   oracle sheet SEED INDEX            writes one generated sheet
+  oracle timed SEED INDEX            writes one function that bench/ times
   oracle store FOLDER N SEED         writes the stored lists, chosen from N sheets
   oracle check-stored FOLDER         holds the stored lists against the oracle";
 
@@ -54,6 +55,7 @@ fn main() {
             number(sheets).and_then(|n| drive(n, number(seed)?, command))
         }
         ["sheet", seed, index] => number(seed).and_then(|s| one_sheet(s, number(index)?)),
+        ["timed", seed, index] => number(seed).and_then(|s| one_timed(s, number(index)?)),
         ["self-test", sheets, seed] => {
             number(sheets).and_then(|n| selftest::run(n, number(seed)?))
         }
@@ -95,6 +97,11 @@ fn speak(old: Old, wrong: Wrong) -> Result<(), String> {
 
 fn one_sheet(seed: u64, index: u64) -> Result<(), String> {
     let (_, sheet) = generate::generate(seed, index);
+    io::stdout().write_all(&sheet).map_err(|e| e.to_string())
+}
+
+fn one_timed(seed: u64, index: u64) -> Result<(), String> {
+    let sheet = generate::timed(seed, index).text();
     io::stdout().write_all(&sheet).map_err(|e| e.to_string())
 }
 

@@ -123,8 +123,17 @@ fn add(
     Ok(())
 }
 
-/// Runs the Rust on a read sheet.
-pub fn check(sheet: &Sheet, want_states: bool) -> Outcome {
+/// Where a step stands: its block, its place there, and its inst.
+pub type Place = (usize, usize, u32);
+
+/// A sheet handed to the Rust, not yet run, and the place of each step by the number that it was given.
+pub struct Built {
+    pub checker: Checker,
+    pub places: Vec<Place>,
+}
+
+/// Hands a read sheet to the Rust; the faults are those of a missing allocation.
+pub fn build(sheet: &Sheet) -> Result<Built, Vec<Fault>> {
     let universe = RealRegUniverse { regs: (0..sheet.regs).map(|n| (real(n), ())).collect() };
     let reftyped: Vec<VirtualReg> =
         sheet.reftyped.iter().map(|n| Reg::Virtual(*n).to_virtual_reg()).collect();
@@ -137,11 +146,19 @@ pub fn check(sheet: &Sheet, want_states: bool) -> Outcome {
             if let Err(errors) = add(&mut checker, BlockIx::new(block as u32), number, step) {
                 // An unrun checker panics when it is dropped.
                 std::mem::forget(checker);
-                let faults = faults(&errors, &places);
-                return Outcome { faults, states: None, visits: 0, missing: true };
+                return Err(faults(&errors, &places));
             }
         }
     }
+    Ok(Built { checker, places })
+}
+
+/// Runs the Rust on a read sheet.
+pub fn check(sheet: &Sheet, want_states: bool) -> Outcome {
+    let Built { checker, places } = match build(sheet) {
+        Ok(built) => built,
+        Err(faults) => return Outcome { faults, states: None, visits: 0, missing: true },
+    };
     if want_states {
         start_log();
     }
@@ -158,14 +175,14 @@ pub fn check(sheet: &Sheet, want_states: bool) -> Outcome {
 }
 
 /// Reads the errors from their Debug text.
-fn faults(errors: &CheckerErrors, places: &[(usize, usize, u32)]) -> Vec<Fault> {
+fn faults(errors: &CheckerErrors, places: &[Place]) -> Vec<Fault> {
     let text = format!("{:?}", errors);
     let list = text.trim_start_matches("CheckerErrors { errors: [").trim_end_matches(" }] }");
     list.split(" }, ").map(|error| fault(error, places)).collect()
 }
 
 /// One error, `Kind { field: value, .. `.
-fn fault(error: &str, places: &[(usize, usize, u32)]) -> Fault {
+fn fault(error: &str, places: &[Place]) -> Fault {
     let parts: Vec<&str> = error.split(" { ").collect();
     let field = |wanted: &str| {
         parts[1].split(", ").find_map(|field| {
