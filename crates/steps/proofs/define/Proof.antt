@@ -17,7 +17,7 @@ enum-told-2 : tie.Need-enum-told-2
 enum-told-2 c = search needs
 
 overwrite-requires : tie.Need-overwrite-requires
-overwrite-requires c κs = let s = c .before .before in (s .pre .0, s .pre .1)
+overwrite-requires c κs = omega arith
 
 cast-reg : tie.Need-cast-reg
 cast-reg c = omega arith

@@ -31,7 +31,7 @@ update-requires : tie.Need-update-requires Inv-loop μ-loop
 update-requires c κs =
     let l = c .before .before in
     let p = l .before .before .pre in
-    (p .regs-fit, p .slots-fit, rw (c .action-at .ensures) (p .in-range _ (l .loop .inv .1) (omega arith)))
+    (omega arith, omega arith, rw (c .action-at .ensures) (p .in-range _ (l .loop .inv .1) (omega arith)))
 
 add-k : tie.Need-add-k Inv-loop μ-loop
 add-k c = search needs

@@ -1,75 +1,55 @@
+-- `stream::one` is safe: the sheet is the part of its buffer that was read.
 use native.Mathlib.Omega.{arith}
 use lib.ListN.{length-take}
 use borrow.Author.Needs.{needs}
 use Rattle.stream.proofs.one.Statement.{statement}
 use Rattle.stream.proofs.one.Tie as tie
-use Rattle.stream.proofs.one.Reads as reads
-use Rattle.stream.proofs.one.Lts as lts
-use Rattle.frames.proofs.read.Reads as read-reads
-use Rattle.io.proofs.write_all.Reads as write-all-reads
-use Rattle.stream.proofs.write_frames.Reads as write-frames-reads
 
--- src/main.rt:61:9
 read-requires : tie.Need-read-requires
 read-requires c κs = search needs
 
--- src/main.rt:63:21
 enum-known-frame : tie.Need-enum-known-frame
 enum-known-frame c = search needs
 
--- src/main.rt:63:45
 slice-reshare-prefix-write-frames : tie.Need-slice-reshare-prefix-write-frames
 slice-reshare-prefix-write-frames c = omega (arith, rw (c .before .frame .given .1) at (c .before .before .before .before .before .read .ensures))
 
--- src/main.rt:63:45
 slice-aggregate-write-frames : tie.Need-slice-aggregate-write-frames
 slice-aggregate-write-frames c = simp length-take (omega (arith, rw (c .before .before .frame .given .1) at (c .before .before .before .before .before .before .read .ensures)))
 
--- src/main.rt:63:32
 write-frames-requires : tie.Need-write-frames-requires
 write-frames-requires c κs = search needs
 
--- src/main.rt:64:23
 enum-told : tie.Need-enum-told
 enum-told c = search needs
 
--- src/main.rt:66:48
 enum-told-2 : tie.Need-enum-told-2
 enum-told-2 c = search needs
 
--- src/main.rt:66:48
 slice-aggregate-write-all : tie.Need-slice-aggregate-write-all
 slice-aggregate-write-all c = search needs
 
--- src/main.rt:66:13
 write-all-requires : tie.Need-write-all-requires
 write-all-requires c κs = search needs
 
--- src/main.rt:55:1
 same-length : tie.Need-same-length
 same-length c = search needs
 
--- src/main.rt:55:1
 same-length-2 : tie.Need-same-length-2
 same-length-2 c = search needs
 
--- src/main.rt:55:1
 returns : tie.Need-returns
 returns c = search needs
 
--- src/main.rt:55:1
 same-length-3 : tie.Need-same-length-3
 same-length-3 c = search needs
 
--- src/main.rt:55:1
 returns-2 : tie.Need-returns-2
 returns-2 c = search needs
 
--- src/main.rt:55:1
 same-length-4 : tie.Need-same-length-4
 same-length-4 c = search needs
 
--- src/main.rt:55:1
 returns-3 : tie.Need-returns-3
 returns-3 c = search needs
 

@@ -1,0 +1,134 @@
+// Runs a stored list of the oracle's answers: standard input is frames, each sheet followed by its old answer, its house answer,
+// its old and its house entry states. Each is computed anew and compared; the last line says how many sheets differ.
+use frames::Frame;
+use paper::Rule;
+
+// What one sheet came to.
+enum Outcome {
+    Same,
+    Different,
+    End,
+}
+
+// Is the next frame the text?
+fn next_is(text: &[u8], stored: &mut [u8]) -> bool {
+    let frame = frames::read(stored);
+    match frame {
+        Frame::Read(length) => check::same(text, &stored[..length]),
+        Frame::End => false,
+        Frame::Malformed => false,
+    }
+}
+
+// Are the sheet's two stored answers what is computed?
+fn same_answers(
+    sheet: &[u8],
+    stored: &mut [u8],
+    text: &mut [u8],
+    words: &mut [u16; 32768],
+    queue: &mut [u8; 16385],
+) -> bool {
+    let old = checker::answer_text(Rule::Old, sheet, text, words, queue);
+    let first = next_is(&text[..old], stored);
+    let house = checker::answer_text(Rule::House, sheet, text, words, queue);
+    let second = next_is(&text[..house], stored);
+    first & second
+}
+
+// Are its two stored entry states what is computed?
+fn same_states(
+    sheet: &[u8],
+    stored: &mut [u8],
+    text: &mut [u8],
+    words: &mut [u16; 32768],
+    queue: &mut [u8; 16385],
+) -> bool {
+    let old = states::entry_states(Rule::Old, sheet, text, words, queue);
+    let first = next_is(&text[..old], stored);
+    let house = states::entry_states(Rule::House, sheet, text, words, queue);
+    let second = next_is(&text[..house], stored);
+    first & second
+}
+
+// One sheet and its stored answers.
+fn one(
+    sheet: &mut [u8],
+    stored: &mut [u8],
+    text: &mut [u8],
+    words: &mut [u16; 32768],
+    queue: &mut [u8; 16385],
+) -> Outcome {
+    let frame = frames::read(sheet);
+    let Frame::Read(length) = frame else {
+        return Outcome::End;
+    };
+    let answers = same_answers(&sheet[..length], stored, text, words, queue);
+    let states = same_states(&sheet[..length], stored, text, words, queue);
+    if answers & states {
+        Outcome::Same
+    } else {
+        Outcome::Different
+    }
+}
+
+// How many sheets were the same and how many not, and whether the list goes on.
+struct Tally {
+    pub same: u64,
+    pub different: u64,
+    pub more: bool,
+}
+
+// One more, where it can be counted.
+fn next(n: u64) -> u64 {
+    if n < 1000000 { n + 1 } else { n }
+}
+
+fn counted(tally: Tally, outcome: Outcome) -> Tally {
+    let same = tally.same;
+    let different = tally.different;
+    match outcome {
+        Outcome::Same => Tally {
+            same: next(same),
+            different: different,
+            more: true,
+        },
+        Outcome::Different => Tally {
+            same: same,
+            different: next(different),
+            more: true,
+        },
+        Outcome::End => Tally {
+            same: same,
+            different: different,
+            more: false,
+        },
+    }
+}
+
+// Writes how many sheets were the same, and how many differ.
+fn say(tally: Tally) {
+    io::print_decimal(libc::STDOUT_FILENO, tally.same);
+    io::write_all(libc::STDOUT_FILENO, b" sheets the same, ");
+    io::print_decimal(libc::STDOUT_FILENO, tally.different);
+    io::write_all(libc::STDOUT_FILENO, b" different\n");
+}
+
+fn main() {
+    let mut sheet = [0u8; 70000];
+    let mut stored = [0u8; 70000];
+    let mut text = [0u8; 32784];
+    let mut words = [0u16; 32768];
+    let mut queue = [0u8; 16385];
+    let mut tally = Tally {
+        same: 0,
+        different: 0,
+        more: true,
+    };
+    let mut turns: u64 = 1000000;
+    while turns > 0 && tally.more {
+        let outcome = one(&mut sheet, &mut stored, &mut text, &mut words, &mut queue);
+        tally = counted(tally, outcome);
+        turns -= 1;
+    }
+    say(tally);
+}
