@@ -1,0 +1,83 @@
+-- `sheets::one` is safe: the sheet is the part of its buffer that was read, the answer the part that was written.
+use native.Mathlib.Omega.{arith}
+use lib.ListN.{length-take}
+use borrow.Author.Needs.{needs}
+use Rattle.sheets.proofs.one.Statement.{statement}
+use Rattle.sheets.proofs.one.Tie as tie
+
+read-requires : tie.Need-read-requires
+read-requires c κs = search needs
+
+enum-known-frame : tie.Need-enum-known-frame
+enum-known-frame c = search needs
+
+same-length : tie.Need-same-length
+same-length c = search needs
+
+returns : tie.Need-returns
+returns c = search needs
+
+slice-reshare-prefix-answer-text : tie.Need-slice-reshare-prefix-answer-text
+slice-reshare-prefix-answer-text c = omega (arith, rw (c .before .frame .given .1) at (c .before .before .before .before .before .read .ensures))
+
+slice-aggregate-answer-text : tie.Need-slice-aggregate-answer-text
+slice-aggregate-answer-text c = simp length-take (omega (arith, rw (c .before .before .frame .given .1) at (c .before .before .before .before .before .before .read .ensures)))
+
+answer-text-requires : tie.Need-answer-text-requires
+answer-text-requires c κs = search needs
+
+slice-reshare-prefix-next-agrees : tie.Need-slice-reshare-prefix-next-agrees
+slice-reshare-prefix-next-agrees c = search needs
+
+slice-aggregate-next-agrees : tie.Need-slice-aggregate-next-agrees
+slice-aggregate-next-agrees c = simp length-take (omega arith)
+
+next-agrees-requires : tie.Need-next-agrees-requires
+next-agrees-requires c κs = search needs
+
+same-length-2 : tie.Need-same-length-2
+same-length-2 c = search needs
+
+same-length-3 : tie.Need-same-length-3
+same-length-3 c = search needs
+
+same-length-4 : tie.Need-same-length-4
+same-length-4 c = search needs
+
+returns-2 : tie.Need-returns-2
+returns-2 c = search needs
+
+same-length-5 : tie.Need-same-length-5
+same-length-5 c = search needs
+
+same-length-6 : tie.Need-same-length-6
+same-length-6 c = search needs
+
+same-length-7 : tie.Need-same-length-7
+same-length-7 c = search needs
+
+returns-3 : tie.Need-returns-3
+returns-3 c = search needs
+
+pub one-spec : {M : Type 1} → statement M
+one-spec =
+    tie.close
+    (tie.spec
+    read-requires
+    enum-known-frame
+    same-length
+    returns
+    slice-reshare-prefix-answer-text
+    slice-aggregate-answer-text
+    answer-text-requires
+    slice-reshare-prefix-next-agrees
+    slice-aggregate-next-agrees
+    next-agrees-requires
+    same-length-2
+    same-length-3
+    same-length-4
+    returns-2
+    same-length-5
+    same-length-6
+    same-length-7
+    returns-3)

@@ -1,0 +1,115 @@
+// Runs a stored list of sheets on the reader: standard input is frames, each sheet followed by `X number line` where it is refused
+// and `ok` where it is read. Each is read anew and compared; the last line says how many differ.
+use frames::Frame;
+use paper::Rule;
+
+// What one sheet came to.
+enum Outcome {
+    Same,
+    Different,
+    End,
+}
+
+// Does an answer agree with what is stored? A report says that the sheet was read.
+fn agrees(text: &[u8], stored: &[u8]) -> bool {
+    if text.len() == 0 {
+        return false;
+    }
+    if text[0] == b'X' {
+        check::same(text, stored)
+    } else {
+        check::same(b"ok\n", stored)
+    }
+}
+
+// Does it agree with the next frame?
+fn next_agrees(text: &[u8], stored: &mut [u8]) -> bool {
+    let frame = frames::read(stored);
+    match frame {
+        Frame::Read(length) => agrees(text, &stored[..length]),
+        Frame::End => false,
+        Frame::Malformed => false,
+    }
+}
+
+// One sheet and its stored answer.
+fn one(
+    sheet: &mut [u8],
+    stored: &mut [u8],
+    text: &mut [u8],
+    words: &mut [u16; 32768],
+    queue: &mut [u8; 16385],
+) -> Outcome {
+    let frame = frames::read(sheet);
+    let Frame::Read(length) = frame else {
+        return Outcome::End;
+    };
+    let said = checker::answer_text(Rule::House, &sheet[..length], text, words, queue);
+    if next_agrees(&text[..said], stored) {
+        Outcome::Same
+    } else {
+        Outcome::Different
+    }
+}
+
+// How many sheets were the same and how many not, and whether the list goes on.
+struct Tally {
+    pub same: u64,
+    pub different: u64,
+    pub more: bool,
+}
+
+// One more, where it can be counted.
+fn next(n: u64) -> u64 {
+    if n < 1000000 { n + 1 } else { n }
+}
+
+fn counted(tally: Tally, outcome: Outcome) -> Tally {
+    let same = tally.same;
+    let different = tally.different;
+    match outcome {
+        Outcome::Same => Tally {
+            same: next(same),
+            different: different,
+            more: true,
+        },
+        Outcome::Different => Tally {
+            same: same,
+            different: next(different),
+            more: true,
+        },
+        Outcome::End => Tally {
+            same: same,
+            different: different,
+            more: false,
+        },
+    }
+}
+
+// Writes how many sheets were the same, and how many differ.
+fn say(tally: Tally) {
+    io::print_decimal(libc::STDOUT_FILENO, tally.same);
+    io::write_all(libc::STDOUT_FILENO, b" sheets the same, ");
+    io::print_decimal(libc::STDOUT_FILENO, tally.different);
+    io::write_all(libc::STDOUT_FILENO, b" different\n");
+}
+
+fn main() {
+    let mut sheet = [0u8; 70000];
+    let mut stored = [0u8; 70000];
+    let mut text = [0u8; 32784];
+    let mut words = [0u16; 32768];
+    let mut queue = [0u8; 16385];
+    let mut tally = Tally {
+        same: 0,
+        different: 0,
+        more: true,
+    };
+    let mut turns: u64 = 1000000;
+    while turns > 0 && tally.more {
+        let outcome = one(&mut sheet, &mut stored, &mut text, &mut words, &mut queue);
+        tally = counted(tally, outcome);
+        turns -= 1;
+    }
+    say(tally);
+}
