@@ -2,5 +2,3 @@ pub mod Lines
 pub mod Passes
 pub mod Missing
 pub mod Reported
-pub mod Outcome
-pub mod Few
