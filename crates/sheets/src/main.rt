@@ -2,13 +2,8 @@
 // and `ok` where it is read. Each is read anew and compared; the last line says how many differ.
 use frames::Frame;
 use paper::Rule;
-
-// What one sheet came to.
-enum Outcome {
-    Same,
-    Different,
-    End,
-}
+use tally::Outcome;
+use tally::Tally;
 
 // Does an answer agree with what is stored? A report says that the sheet was read.
 fn agrees(text: &[u8], stored: &[u8]) -> bool {
@@ -52,48 +47,6 @@ fn one(
     }
 }
 
-// How many sheets were the same and how many not, and whether the list goes on.
-struct Tally {
-    pub same: u64,
-    pub different: u64,
-    pub more: bool,
-}
-
-// One more, where it can be counted.
-fn next(n: u64) -> u64 {
-    if n < 1000000 { n + 1 } else { n }
-}
-
-fn counted(tally: Tally, outcome: Outcome) -> Tally {
-    let same = tally.same;
-    let different = tally.different;
-    match outcome {
-        Outcome::Same => Tally {
-            same: next(same),
-            different: different,
-            more: true,
-        },
-        Outcome::Different => Tally {
-            same: same,
-            different: next(different),
-            more: true,
-        },
-        Outcome::End => Tally {
-            same: same,
-            different: different,
-            more: false,
-        },
-    }
-}
-
-// Writes how many sheets were the same, and how many differ.
-fn say(tally: Tally) {
-    io::print_decimal(libc::STDOUT_FILENO, tally.same);
-    io::write_all(libc::STDOUT_FILENO, b" sheets the same, ");
-    io::print_decimal(libc::STDOUT_FILENO, tally.different);
-    io::write_all(libc::STDOUT_FILENO, b" different\n");
-}
-
 fn main() {
     let mut sheet = [0u8; 70000];
     let mut stored = [0u8; 70000];
@@ -108,8 +61,8 @@ fn main() {
     let mut turns: u64 = 1000000;
     while turns > 0 && tally.more {
         let outcome = one(&mut sheet, &mut stored, &mut text, &mut words, &mut queue);
-        tally = counted(tally, outcome);
+        tally = tally::counted(tally, outcome);
         turns -= 1;
     }
-    say(tally);
+    tally::say(tally);
 }
