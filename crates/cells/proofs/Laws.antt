@@ -187,6 +187,22 @@ module _ (rule : Rule) (a b : ℕ) where
   pub met-moves : (meet-word rule a b ≡ a → ⊥) → cell-of (meet-word rule a b) ≡ cell-of a → ⊥
   met-moves = met .1
 
+-- a word that meets itself stays
+by-itself : (left right mark : Bool) (a : ℕ) → a ≡ cond left a (cond right a (cond mark a (cond mark a a)))
+by-itself true right mark a = refl
+by-itself false true mark a = refl
+by-itself false false true a = refl
+by-itself false false false a = refl
+
+word-itself : (rule : Rule) (a : ℕ) → a ≡ meet-word rule a a
+unfolding meet-word meet-named
+word-itself rule a =
+    let w = winner (rule-index rule) (a / 1024 % 4) (a / 1024 % 4) in
+    rw (eq-eqb (a % 512) (a % 512) refl) (by-itself (eqb w 0) (eqb w 1) (marked a) a)
+
+pub met-itself : (rule : Rule) (a b : ℕ) → a ≡ b → (a ≡ meet-word rule a b) × (cell-of a ≡ paper.meet rule (cell-of a) (cell-of b))
+met-itself rule a b e = rw (← e) (word-itself rule a, ap cell-of (word-itself rule a) ∙ met-meaning rule a a)
+
 -- the tests of `meet`, with the table that it was lent
 module _ (rule : Rule) (a b r : ℕ) (table : List (List (List ℕ))) (et : table ≡ meet-table) (er : r ≡ rule-index rule) where
   abbrev read : ℕ

@@ -41,11 +41,14 @@ pub fn meet_table() -> [[[u8; 4]; 4]; 2]
     MEET
 }
 
-// The meet of two cells, by the table that is lent.
+// The meet of two cells, by the table that is lent. Most cells that meet are equal, and stay.
 pub fn meet(table: &[[[u8; 4]; 4]; 2], rule: Rule, a: u16, b: u16) -> u16
     requires { ⌜ now table ≡ meet-table ⌝ }
     ensures { λ r. ⌜ (r ≡ meet-word rule a b) × (cell-of r ≡ paper.meet rule (cell-of a) (cell-of b)) ⌝ }
 {
+    if a == b {
+        return a;
+    }
     let k = rule_index(rule);
     let left = (a / 1024 % 4) as usize;
     let right = (b / 1024 % 4) as usize;
