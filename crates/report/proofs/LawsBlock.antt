@@ -12,12 +12,12 @@ use Rattle.paper.specs.Runs.{checked-from}
 use Rattle.paper.specs.Limits.{max-steps}
 use Rattle.paper.specs.Report.{inst-of, faults-from, block-faults, by-block, find-errors, missing-allocations}
 use Rattle.paper.specs.declared.Rule.{Rule}
+use Rattle.layout.specs.Layout.{regs-word, slots-word, blocks-word, opened-word, steps-word, state-base, state-words, all-words}
 use Rattle.cells.specs.States.{state-of, stored-state}
-use Rattle.steps.specs.Layout.{most-steps, state-base, state-words, all-words}
 use Rattle.steps.specs.Actions.{step-of, action-at, steps-at, InRange, Honest, RoomFor}
 use Rattle.steps.specs.Laws.{ranged-room, allocated}
 use Rattle.steps.specs.declared.Action.{Action}
-use Rattle.sheet.specs.Loaded.{regs-word, slots-word, blocks-word, steps-word, opened-word, first-step, step-total, sheet-of, Loaded}
+use Rattle.sheet.specs.Loaded.{first-step, step-total, sheet-of, Loaded}
 use Rattle.report.specs.Passes.{Noted, fault-lines}
 use Rattle.report.specs.Reported.{Checkable}
 use Rattle.report.specs.declared.Pass.{Pass}
@@ -38,7 +38,7 @@ pub record BlockWithin (words : List ℕ) (block : ℕ) : Type 0 where
   pub few : block < 64
   pub opened : block < getD words opened-word 0
   pub steps : first-step words block + step-total words block ≤ getD words steps-word 0
-  pub most : getD words steps-word 0 ≤ most-steps
+  pub most : getD words steps-word 0 ≤ max-steps
   pub size : all-words ≤ length words
   pub regs : getD words regs-word 0 ≤ 32
   pub slots : getD words slots-word 0 ≤ 32

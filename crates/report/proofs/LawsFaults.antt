@@ -14,8 +14,9 @@ use Rattle.paper.specs.Steps.{State, Fault, check, effect, effects}
 use Rattle.paper.specs.Refusals.{step-count}
 use Rattle.paper.specs.Report.{Line, inst-of, line-of, faults-from, by-block}
 use Rattle.paper.specs.declared.Rule.{Rule}
+use Rattle.layout.specs.Layout.{opened-word}
 use Rattle.steps.specs.Actions.{step-of, action-at, steps-at}
-use Rattle.sheet.specs.Loaded.{first-step, step-total, opened-word, block-at, blocks-at, sheet-of}
+use Rattle.sheet.specs.Loaded.{first-step, step-total, block-at, blocks-at, sheet-of}
 use Rattle.report.specs.Passes.{fault-lines}
 
 -- ---- a step more

@@ -8,8 +8,8 @@ use native.Mathlib.Omega.{arith}
 use Rattle.paper.specs.Sheet.{Sheet, steps-of}
 use Rattle.paper.specs.Report.{Line, inst-of, first-list, unallocated, missing-names, missing-from, missing-blocks, faults}
 use Rattle.paper.specs.declared.Rule.{Rule}
+use Rattle.layout.specs.Layout.{defs-from}
 use Rattle.steps.specs.Actions.{operands, step-of, action-at, steps-at}
-use Rattle.steps.specs.Layout.{defs-from}
 use Rattle.steps.specs.Faults.{some-in}
 use Rattle.steps.specs.declared.Action.the-variants.{Operation}
 use Rattle.sheet.specs.Loaded.{sheet-of}

@@ -11,9 +11,9 @@ use Rattle.paper.specs.Answer.{laid}
 use Rattle.paper.specs.declared.Rule.{Rule}
 use Rattle.paper.specs.declared.Answer.{Answer}
 use Rattle.paper.specs.declared.Answer.the-variants.{Accepted, Faulty}
+use Rattle.layout.specs.Layout.{regs-word, slots-word, blocks-word, state-base, state-words}
 use Rattle.cells.specs.States.{stored-state}
-use Rattle.steps.specs.Layout.{state-base, state-words}
-use Rattle.sheet.specs.Loaded.{regs-word, slots-word, blocks-word, sheet-of, Loaded}
+use Rattle.sheet.specs.Loaded.{sheet-of, Loaded}
 
 -- the words hold a sheet with every operand allocated, and each block's state behind the analysis
 pub record Checkable (rule : Rule) (words : List ℕ) : Type 0 where

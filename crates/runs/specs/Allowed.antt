@@ -15,12 +15,13 @@ use Rattle.paper.specs.Text.{Name}
 use Rattle.paper.specs.Sheet.{Operand, Sheet, steps-of, succs-of, reference-typed}
 use Rattle.paper.specs.Report.{first-list, unallocated, missing-names, missing-from, missing-blocks, missing-allocations}
 use Rattle.paper.specs.Walks.{In, here, there}
+use Rattle.layout.specs.Layout.{regs-word, slots-word, blocks-word, opened-word, succ-base}
 use Rattle.walks.specs.Choices.{some-not-none, in-nil}
 use Rattle.walks.specs.Bounds.{Closed}
 use Rattle.steps.specs.Actions.{no-register, register-of, operand-of, operands, step-of, action-at, steps-at, Ranged, InRange, Runnable, HonestSteps}
 use Rattle.steps.specs.declared.Action.{Action}
 use Rattle.steps.specs.declared.Action.the-variants.{Spill, Reload, Move, Change, Operation, Safepoint}
-use Rattle.sheet.specs.Loaded.{regs-word, slots-word, blocks-word, opened-word, first-step, step-total, succ-total, succ-base, sheet-of, BlockBounds, Loaded}
+use Rattle.sheet.specs.Loaded.{first-step, step-total, succ-total, sheet-of, BlockBounds, Loaded}
 use Rattle.runs.specs.Sheets.{succs-in-words, succs-beyond, steps-in-words}
 
 -- where an element of a list stands

@@ -10,9 +10,10 @@ use Rattle.lists.specs.Region.{region, same-region}
 use Rattle.lists.specs.Kept.{Kept}
 use Rattle.paper.specs.Text.{Name}
 use Rattle.paper.specs.Sheet.{operation, Block, no-block, succs-of, steps-of}
-use Rattle.steps.specs.Layout.{most-steps, header-words, typed-base, typed-words, step-base, step-words, operand-base, operand-words, defs-from, state-base, all-words}
+use Rattle.paper.specs.Limits.{max-steps}
+use Rattle.layout.specs.Layout.{regs-word, slots-word, vregs-word, blocks-word, entry-word, opened-word, steps-word, header-words, typed-base, typed-words, succ-base, step-base, step-words, operand-base, defs-from, operand-words, state-base, all-words}
 use Rattle.steps.specs.Actions.{operand-of, operands, step-of, action-of, action-at, steps-at, Ranged, Honest}
-use Rattle.sheet.specs.Loaded.{regs-word, slots-word, vregs-word, blocks-word, entry-word, opened-word, steps-word, first-step, step-total, succ-total, succ-base, block-at, blocks-at, sheet-of, BlockBounds, StepBounds, Bounds, Loaded}
+use Rattle.sheet.specs.Loaded.{first-step, step-total, succ-total, block-at, blocks-at, sheet-of, BlockBounds, StepBounds, Bounds, Loaded}
 
 -- the blocks from `from` on, one by one
 block-from : (words : List ℕ) (from n b : ℕ) → b < n → getD (blocks-at words from n) b no-block ≡ block-at words (from + b)
@@ -47,12 +48,12 @@ module _ {room : ℕ} {words words′ : List ℕ} (kept : Kept state-base room w
   unfolding operands
   operands-stay at n h = ap (map operand-of) (region-stays at n h)
 
-  action-stays : (k : ℕ) → k < most-steps → action-at words′ k ≡ action-at words k
+  action-stays : (k : ℕ) → k < max-steps → action-at words′ k ≡ action-at words k
   unfolding action-at
   action-stays k h = rw (kept .below (step-base + k * step-words) (omega arith), kept .below (step-base + k * step-words + 1) (omega arith), kept .below (step-base + k * step-words + 2) (omega arith), kept .below (step-base + k * step-words + 3) (omega arith))
 
   -- a step with the operands that the k-th has
-  module _ (regs slots k : ℕ) (h : k < most-steps) where
+  module _ (regs slots k : ℕ) (h : k < max-steps) where
     step-of-stays : (t a b inst x y : ℕ) → Ranged regs slots words (action-of k t a b inst x y) → step-of words′ (action-of k t a b inst x y) ≡ step-of words (action-of k t a b inst x y)
     unfolding action-of step-of
     step-of-stays zero a b inst x y p = refl
@@ -157,7 +158,7 @@ module _ {room : ℕ} {words words′ : List ℕ} (kept : Kept state-base room w
         steps : (k : ℕ) → k < getD words steps-word 0 → StepBounds words′ k
         steps k h =
             let e = B .each-step k h in
-            let l : k < most-steps = omega (arith, B .steps) in
+            let l : k < max-steps = omega (arith, B .steps) in
             record {
               ranged = rw (header-stays regs-word (omega arith), header-stays slots-word (omega arith), action-stays k l) (ranged-at-stays _ _ k l (e .ranged));
               honest = rw (sheet-stays, action-stays k l) (honest-at-stays _ _ k l _ (e .ranged) (e .honest));

@@ -10,11 +10,12 @@ use Rattle.paper.specs.Steps.{State}
 use Rattle.paper.specs.Runs.{Run, begin, analysis, checked-from}
 use Rattle.paper.specs.Report.{missing-allocations}
 use Rattle.paper.specs.declared.Rule.{Rule}
+use Rattle.layout.specs.Layout.{regs-word, slots-word, blocks-word, state-at, mark-at}
 use Rattle.walks.specs.Bounds.{Closed}
 use Rattle.walks.specs.Loop.{Standing}
 use Rattle.cells.specs.States.{stored-state}
-use Rattle.sheet.specs.Loaded.{regs-word, slots-word, blocks-word, sheet-of, Loaded}
-use Rattle.runs.specs.Layout.{state-at, mark-at, RunKept, held-state}
+use Rattle.sheet.specs.Loaded.{sheet-of, Loaded}
+use Rattle.runs.specs.Held.{RunKept, held-state}
 use Rattle.runs.specs.Queue.{held, Sound}
 use Rattle.runs.specs.Table.{mark-of, Tables}
 use Rattle.runs.specs.Sheets.{sheet-stays, loaded-stays}

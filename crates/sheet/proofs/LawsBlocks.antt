@@ -12,9 +12,9 @@ use Rattle.paper.specs.Text.{Name, real, virtual}
 use Rattle.paper.specs.Sheet.{Step, Block, Sheet, reference-typed}
 use Rattle.paper.specs.Refusals.{add-step, step-count}
 use Rattle.paper.specs.Limits.{max-steps}
-use Rattle.steps.specs.Layout.{typed-base, typed-words, block-base, block-words, step-base, most-steps, all-words}
+use Rattle.layout.specs.Layout.{regs-word, slots-word, blocks-word, opened-word, steps-word, typed-base, typed-words, block-base, block-words, succ-base, step-base, all-words}
 use Rattle.steps.specs.Actions.{step-of, action-at, steps-at, Ranged, Honest}
-use Rattle.sheet.specs.Loaded.{regs-word, slots-word, blocks-word, opened-word, steps-word, first-step, step-total, succ-total, succ-base, block-at, blocks-at, marked-from, sheet-of, BlockBounds, StepBounds, Bounds}
+use Rattle.sheet.specs.Loaded.{first-step, step-total, succ-total, block-at, blocks-at, marked-from, sheet-of, BlockBounds, StepBounds, Bounds}
 use Rattle.sheet.proofs.LawsSteps.{SameSteps, packs-at, same-action, same-step, same-within, same-honest, room-within, steps-alike}
 
 -- ---- a run of blocks

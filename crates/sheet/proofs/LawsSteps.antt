@@ -11,8 +11,9 @@ use lib.ListN.{length, getD}
 use Rattle.lists.specs.Region.{region, same-region}
 use Rattle.paper.specs.Text.{Name}
 use Rattle.paper.specs.Sheet.{Operand, Step, operation}
+use Rattle.paper.specs.Limits.{max-steps}
+use Rattle.layout.specs.Layout.{step-base, step-words, operand-base, defs-from, operand-words, all-words}
 use Rattle.cells.specs.Packed.{name-of-word, marked}
-use Rattle.steps.specs.Layout.{step-base, step-words, operand-base, operand-words, defs-from, most-steps, all-words}
 use Rattle.steps.specs.Actions.{operand-of, operands, step-of, action-of, action-at, steps-at, Within, Honest, Packs, RoomFor}
 use Rattle.steps.specs.declared.Action.{Action}
 use Rattle.steps.specs.declared.Action.the-variants.{Spill, Reload, Move, Change, Operation, Safepoint}

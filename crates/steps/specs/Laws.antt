@@ -15,7 +15,8 @@ use Rattle.lists.specs.Kept.{Kept, kept-below, kept-above}
 use Rattle.lists.specs.Region.{region}
 use Rattle.lists.specs.Regions.{All, all-at}
 use Rattle.paper.specs.Report.{unallocated, first-list, missing-names}
-use Rattle.steps.specs.Layout.{most-steps, step-base, step-words, operand-words, defs-from, all-words}
+use Rattle.paper.specs.Limits.{max-steps}
+use Rattle.layout.specs.Layout.{step-base, step-words, defs-from, operand-words, all-words}
 use Rattle.steps.specs.Actions.{no-register, register-of, operand-of, operands, step-of, action-at, Ranged, InRange, RoomFor, OperandsIn}
 use Rattle.steps.specs.declared.Action.{Action}
 use Rattle.steps.specs.declared.Action.the-variants.{Spill, Reload, Move, Change, Operation, Safepoint}
@@ -76,7 +77,7 @@ allocated regs slots words (Operation inst at n m) h e =
 allocated regs slots words (Safepoint inst mask) h e = h
 
 -- a change that touches neither the words of the k-th step nor its operands
-module _ {at n : ℕ} {l l₁ : List ℕ} (kept : Kept at n l l₁) (k : ℕ) (hk : k < most-steps) (fits : all-words ≤ length l) where
+module _ {at n : ℕ} {l l₁ : List ℕ} (kept : Kept at n l l₁) (k : ℕ) (hk : k < max-steps) (fits : all-words ≤ length l) where
   -- the change lies wholly outside a region
   abbrev Apart : ℕ → ℕ → Type 0
   Apart b m = (b + m ≤ at) ⊎ (at + n ≤ b)

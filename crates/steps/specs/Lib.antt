@@ -1,4 +1,3 @@
-pub mod Layout
 pub mod Actions
 pub mod Faults
 pub mod Checks

@@ -4,10 +4,11 @@ use native.Mathlib.Omega.{arith}
 use lib.ListN.{length, getD}
 use Rattle.steps.specs.Laws.{in-range-32}
 use Rattle.steps.specs.Actions.{action-at, InRange}
-use Rattle.sheet.specs.Loaded.{regs-word, slots-word, step-total}
+use Rattle.sheet.specs.Loaded.{step-total}
 use Rattle.report.proofs.LawsErrors.{error-within}
 use Rattle.report.proofs.LawsBlock.{SoFar, BlockWithin, block-within, in-range-at, honest-at, so-far-none, so-far-all, so-far-more}
 use borrow.Author.Needs.{needs}
+use Rattle.layout.specs.Layout.{regs-word, slots-word}
 use Rattle.report.proofs.check_block.Statement.{statement}
 use Rattle.report.proofs.check_block.Tie as tie
 
