@@ -80,10 +80,10 @@ module _ {S : Sheet} {words : List ℕ} (sheet : Holds S words) where
   narrow = subst Narrow (sym counts-are) (sheet .ready .loaded .bounds .regs, (sheet .ready .loaded .bounds .slots, tt))
 
 pub ready-stays : {words words′ : List ℕ} → RunKept words words′ → Ready words → Ready words′
-ready-stays kept r = record { loaded = loaded-stays kept (r .loaded .bounds .size) (r .loaded); room = rw (kept .same-length) (r .room) }
+ready-stays kept r = record { loaded = loaded-stays kept (r .loaded); room = rw (kept .same-length) (r .room) }
 
 pub holds-stays : {S : Sheet} {words words′ : List ℕ} → RunKept words words′ → Holds S words → Holds S words′
-holds-stays kept h = let L = h .ready .loaded .bounds in record { ready = ready-stays kept (h .ready); is = sheet-stays kept (L .size) L ∙ h .is }
+holds-stays kept h = record { ready = ready-stays kept (h .ready); is = sheet-stays kept (h .ready .loaded .bounds) ∙ h .is }
 
 module _ {rule : Rule} {S : Sheet} {words words′ : List ℕ} {b : ℕ} (sheet : Holds S words) (alone : Alone b words words′) where
   -- a table of n blocks before the change, and one of m after it

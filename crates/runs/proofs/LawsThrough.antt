@@ -13,7 +13,7 @@ use Rattle.cells.specs.States.{state-of, stored-state}
 use Rattle.steps.specs.Actions.{steps-at, HonestSteps}
 use Rattle.sheet.specs.Loaded.{first-step, step-total, sheet-of}
 use Rattle.runs.specs.Held.{counts-of, held-state}
-use Rattle.runs.specs.Sheets.{steps-in-words}
+use Rattle.sheet.specs.Blocks.{steps-in-words}
 use Rattle.runs.specs.Allowed.{loaded-honest}
 use Rattle.runs.specs.Table.{Ready, Through}
 

@@ -22,7 +22,7 @@ use Rattle.layout.specs.Layout.{blocks-word, opened-word, succ-base, state-base
 use Rattle.walks.specs.Loop.{standing-room, standing-below, standing-inside}
 use Rattle.cells.specs.States.{state-of}
 use Rattle.sheet.specs.Loaded.{succ-total, sheet-of, BlockBounds}
-use Rattle.runs.specs.Sheets.{succs-in-words}
+use Rattle.sheet.specs.Blocks.{succs-in-words}
 use Rattle.runs.specs.Held.{counts-of, held-state}
 use Rattle.runs.specs.Queue.{held, Sound, Taken}
 use Rattle.runs.specs.Table.{Ready, Holds, mark-of, Through}

@@ -65,10 +65,10 @@ pub record Analysed (rule : Rule) (words queue words′ queue′ : List ℕ) : T
 -- they hold the sheet that they held, and block b's state is read by the counts that they have
 module _ {rule : Rule} {words queue words′ queue′ : List ℕ} (loaded : Loaded words) (a : Analysed rule words queue words′ queue′) where
   pub analysed-sheet : sheet-of words′ ≡ sheet-of words
-  analysed-sheet = sheet-stays (a .kept) (loaded .bounds .size) (loaded .bounds)
+  analysed-sheet = sheet-stays (a .kept) (loaded .bounds)
 
   pub analysed-loaded : Loaded words′
-  analysed-loaded = loaded-stays (a .kept) (loaded .bounds .size) loaded
+  analysed-loaded = loaded-stays (a .kept) loaded
 
   pub analysed-state : (b : ℕ) → b < getD words blocks-word 0
       → stored-state (getD words′ regs-word 0 ∷ getD words′ slots-word 0 ∷ []) (state-at b) words′ ≡ checked-from rule (sheet-of words) b

@@ -25,7 +25,7 @@ use Rattle.sheet.specs.declared.Lined as Lined
 use Rattle.sheet.specs.declared.Lined.the-variants as lined
 use Rattle.sheet.specs.declared.Loading as Loading
 use Rattle.sheet.specs.declared.Loading.the-variants as loading
-use Rattle.sheet.proofs.LawsBlocks.{length-blocks}
+use Rattle.sheet.specs.Blocks.{length-blocks}
 use Rattle.sheet.proofs.LawsProgress.{so-far-blank, so-far-begun, begun-of}
 
 -- what is still to be read, from the line at `at` on, gives what the sheet gives

@@ -26,8 +26,8 @@ use Rattle.sheet.specs.Loaded.{step-total, blocks-at, sheet-of, so-far}
 use Rattle.sheet.specs.Reading.{Blank, Begun, Progress, Fits, LineRead}
 use Rattle.sheet.specs.Reading as reading
 use Rattle.sheet.specs.declared.Lined as Lined
-use Rattle.sheet.proofs.LawsSteps.{SameSteps}
-use Rattle.sheet.proofs.LawsBlocks.{SameHead, SameLinks, kept-step-bounds, kept-block-bounds, kept-blocks, same-first}
+use Rattle.steps.specs.Same.{SameSteps}
+use Rattle.sheet.specs.Blocks.{SameHead, SameLinks, kept-step-bounds, kept-block-bounds, kept-blocks, same-first}
 use Rattle.sheet.proofs.LawsBody.{with-body, bounds-after, least-after, begun-after, meaning-after}
 use Rattle.sheet.proofs.LawsProgress.{sheet-blank, so-far-blank, so-far-begun}
 

@@ -21,7 +21,7 @@ use Rattle.sheet.specs.Reading.{Blank, Begun, Progress, counts-of}
 use Rattle.sheet.specs.Reading as reading
 use Rattle.sheet.proofs.LawsTyped.{listed-marked, ascending-one}
 use Rattle.sheet.proofs.LawsHeader.{none-typed}
-use Rattle.sheet.proofs.LawsBlocks.{length-blocks}
+use Rattle.sheet.specs.Blocks.{length-blocks}
 
 -- ---- the sheet so far
 

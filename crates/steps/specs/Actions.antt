@@ -117,15 +117,6 @@ RoomFor (Change inst k from to) words = Unit {0}
 RoomFor (Operation inst at n m) words = (n ≤ max-operands) × (m ≤ max-operands) × (at + operand-words ≤ length words)
 RoomFor (Safepoint inst mask) words = Unit {0}
 
--- an operation's operands stand at b, no more than there may be of each
-abbrev pub OperandsIn : ℕ → Action → Type 0
-OperandsIn b (Spill k r) = Unit {0}
-OperandsIn b (Reload r k) = Unit {0}
-OperandsIn b (Move into from) = Unit {0}
-OperandsIn b (Change inst k from to) = Unit {0}
-OperandsIn b (Operation inst at n m) = (at ≡ b) × (n ≤ max-operands) × (m ≤ max-operands)
-OperandsIn b (Safepoint inst mask) = Unit {0}
-
 -- the steps of a block can be run
 pub record Runnable (regs slots : ℕ) (words : List ℕ) (first count : ℕ) : Type 0 where
   pub regs-fit : regs ≤ max-regs

@@ -3,3 +3,4 @@ pub mod Faults
 pub mod Checks
 pub mod Defs
 pub mod Laws
+pub mod Same
