@@ -1,5 +1,5 @@
--- A state in packed words: its rows in order, each of 32 words, of which as many count as `F` says. Counts and rows are lists,
--- so that nothing here knows how many rows there are.
+-- A state in packed words: its rows in order, each of `row-words` words, of which as many count as `F` says. Counts and rows are
+-- lists, so that nothing here knows how many rows there are.
 use mathlib.Core.Path.{_≡_}
 use mathlib.Core.Bool.{Bool, true, false, not, _||_}
 use mathlib.Core.List.{List, [], _∷_, map}
@@ -11,11 +11,9 @@ use Rattle.paper.specs.Cells.{Cell}
 use Rattle.paper.specs.Steps.{State}
 use Rattle.paper.specs.Runs.{meet-states}
 use Rattle.paper.specs.declared.Rule.{Rule}
+use Rattle.layout.specs.Layout.{row-words}
 use Rattle.cells.specs.Packed.{cell-of}
 use Rattle.cells.specs.Meeting.{meet-word}
-
-abbrev pub row-words : ℕ
-row-words = 32
 
 -- the first n cells of a row
 unfoldable pub cells-of : ℕ → List ℕ → List Cell

@@ -1,4 +1,4 @@
-// Packed cells, their meet by a table, and a state of two rows of 32 cells by value.
+// Packed cells, their meet by a table, and a state of two rows of cells by value.
 ghost use mathlib.Core.Path.{_≡_};
 ghost use mathlib.Core.Bool.{false, cond};
 ghost use mathlib.Core.List.{List, [], _∷_, map};
@@ -11,12 +11,15 @@ ghost use Rattle.paper.specs.Text.{real};
 ghost use Rattle.paper.specs.Sheet.{Sheet, listed};
 ghost use Rattle.paper.specs.Cells as paper;
 ghost use Rattle.paper.specs.Steps.{cell-at, store-at, everywhere, placed, safepoint-row, row-of, entry-state, unreached-state};
+ghost use Rattle.paper.specs.Limits.{max-regs, max-slots};
+ghost use Rattle.layout.specs.Layout.{row-words, state-words};
 ghost use Rattle.cells.specs.Packed.{name-of-word, marked, cell-of};
 ghost use Rattle.cells.specs.Meeting.{rule-index, meet-table, meet-word};
 ghost use Rattle.cells.specs.States.{cells-of, state-of, stored-state, changes, meet-at, MetWith, Stored};
+use layout::ROW_WORDS;
 use paper::Rule;
 
-pub type State = [[u16; 32]; 2];
+pub type State = [[u16; ROW_WORDS]; 2];
 
 // Which side wins the meet, by rule, left kind and right kind: 0 the left, 1 the right, 2 both are names.
 pub const MEET: [[[u8; 4]; 4]; 2] = [
@@ -87,8 +90,8 @@ fn overwritten(name: u16, w: u16) -> u16
 }
 
 // The first n cells of a row after the name was written elsewhere.
-fn overwrite_row(row: &mut [u16; 32], n: usize, name: u16)
-    requires { ⌜ n ≤ 32 ⌝ }
+fn overwrite_row(row: &mut [u16; ROW_WORDS], n: usize, name: u16)
+    requires { ⌜ n ≤ row-words ⌝ }
     ensures { λ r. ⌜ cells-of n (now (row .exit)) ≡ map (paper.overwritten (name-of-word name)) (cells-of n (now (row .entry))) ⌝ }
 {
     let mut i = 0;
@@ -100,7 +103,7 @@ fn overwrite_row(row: &mut [u16; 32], n: usize, name: u16)
 
 // The state after the name was written elsewhere: no cell holds it any more.
 pub fn overwrite(mut s: State, regs: usize, slots: usize, name: u16) -> State
-    requires { ⌜ (regs ≤ 32) × (slots ≤ 32) ⌝ }
+    requires { ⌜ (regs ≤ max-regs) × (slots ≤ max-slots) ⌝ }
     ensures { λ r. ⌜ state-of (regs ∷ slots ∷ []) r ≡ everywhere (paper.overwritten (name-of-word name)) (state-of (regs ∷ slots ∷ []) s) ⌝ }
 {
     overwrite_row(&mut s[0], regs, name);
@@ -157,8 +160,8 @@ fn collected(rule: Rule, w: u16) -> u16
 }
 
 // The first n cells of a row at a safepoint; bit i of `kept` is set where cell i keeps its name.
-fn collect_row(rule: Rule, row: &mut [u16; 32], n: usize, kept: u32)
-    requires { ⌜ n ≤ 32 ⌝ }
+fn collect_row(rule: Rule, row: &mut [u16; ROW_WORDS], n: usize, kept: u32)
+    requires { ⌜ n ≤ row-words ⌝ }
     ensures { λ r. ⌜ cells-of n (now (row .exit)) ≡ placed (λ i c. cond (listed (set-bits kept) i) c (paper.collected rule c)) (cells-of n (now (row .entry))) ⌝ }
 {
     let mut i = 0;
@@ -172,7 +175,7 @@ fn collect_row(rule: Rule, row: &mut [u16; 32], n: usize, kept: u32)
 
 // The state behind a safepoint that lists the slots of a mask.
 pub fn update_stackmap(rule: Rule, mut s: State, regs: usize, slots: usize, mask: u32) -> State
-    requires { ⌜ (regs ≤ 32) × (slots ≤ 32) ⌝ }
+    requires { ⌜ (regs ≤ max-regs) × (slots ≤ max-slots) ⌝ }
     ensures { λ r. ⌜ state-of (regs ∷ slots ∷ []) r ≡ placed (safepoint-row rule (set-bits mask)) (state-of (regs ∷ slots ∷ []) s) ⌝ }
 {
     collect_row(rule, &mut s[0], regs, 0);
@@ -182,7 +185,7 @@ pub fn update_stackmap(rule: Rule, mut s: State, regs: usize, slots: usize, mask
 
 // One cell copied to another, as `S`, `L` and `M` do.
 pub fn copy(mut s: State, row: usize, place: usize, other: usize, from: usize) -> State
-    requires { ⌜ (row < 2) × (place < 32) × (other < 2) × (from < 32) ⌝ }
+    requires { ⌜ (row < 2) × (place < row-words) × (other < 2) × (from < row-words) ⌝ }
     ensures { λ r. ⌜ ((counts : List ℕ) → from < getD counts other 0 → state-of counts r ≡ store-at row place (paper.copied (cell-at (state-of counts s) other from)) (state-of counts s)) ⌝ }
 {
     s[row][place] = copied(s[other][from]);
@@ -195,10 +198,10 @@ fn meet_row(
     rule: Rule,
     words: &mut [u16],
     at: usize,
-    row: &[u16; 32],
+    row: &[u16; ROW_WORDS],
     n: usize,
 ) -> bool
-    requires { ⌜ (now table ≡ meet-table) × (at + n ≤ length (now words)) × (n ≤ 32) ⌝ }
+    requires { ⌜ (now table ≡ meet-table) × (at + n ≤ length (now words)) × (n ≤ row-words) ⌝ }
     ensures { λ r. ⌜ (now (words .exit) ≡ over at n (meet-at rule (now (row .entry))) (now (words .entry))) × (r ≡ changes at n (meet-at rule (now (row .entry))) (now (words .entry))) ⌝ }
 {
     let mut changed = false;
@@ -226,20 +229,20 @@ pub fn meet_with(
     regs: usize,
     slots: usize,
 ) -> bool
-    requires { ⌜ (now table ≡ meet-table) × (at + 64 ≤ length (now words)) × (regs ≤ 32) × (slots ≤ 32) ⌝ }
+    requires { ⌜ (now table ≡ meet-table) × (at + state-words ≤ length (now words)) × (regs ≤ max-regs) × (slots ≤ max-slots) ⌝ }
     ensures { λ r. ⌜ MetWith rule (regs ∷ slots ∷ []) at s (now (words .entry)) (now (words .exit)) r ⌝ }
 {
     let a = meet_row(table, rule, words, at, &s[0], regs);
-    let b = meet_row(table, rule, words, at + 32, &s[1], slots);
+    let b = meet_row(table, rule, words, at + ROW_WORDS, &s[1], slots);
     a | b
 }
 
 // A row read from the n words from `at` on.
-fn load_row(words: &[u16], at: usize, n: usize) -> [u16; 32]
-    requires { ⌜ (at + n ≤ length (now words)) × (n ≤ 32) ⌝ }
+fn load_row(words: &[u16], at: usize, n: usize) -> [u16; ROW_WORDS]
+    requires { ⌜ (at + n ≤ length (now words)) × (n ≤ row-words) ⌝ }
     ensures { λ r. ⌜ take n r ≡ region at n (now (words .entry)) ⌝ }
 {
-    let mut row = [0u16; 32];
+    let mut row = [0u16; ROW_WORDS];
     let mut i = 0;
     while i < n {
         row[i] = words[at + i];
@@ -250,17 +253,17 @@ fn load_row(words: &[u16], at: usize, n: usize) -> [u16; 32]
 
 // The state that stands at `at`.
 pub fn load(words: &[u16], at: usize, regs: usize, slots: usize) -> State
-    requires { ⌜ (at + 64 ≤ length (now words)) × (regs ≤ 32) × (slots ≤ 32) ⌝ }
+    requires { ⌜ (at + state-words ≤ length (now words)) × (regs ≤ max-regs) × (slots ≤ max-slots) ⌝ }
     ensures { λ r. ⌜ state-of (regs ∷ slots ∷ []) r ≡ stored-state (regs ∷ slots ∷ []) at (now (words .entry)) ⌝ }
 {
     let a = load_row(words, at, regs);
-    let b = load_row(words, at + 32, slots);
+    let b = load_row(words, at + ROW_WORDS, slots);
     [a, b]
 }
 
 // A row written to the n words from `at` on.
-fn store_row(words: &mut [u16], at: usize, row: &[u16; 32], n: usize)
-    requires { ⌜ (at + n ≤ length (now words)) × (n ≤ 32) ⌝ }
+fn store_row(words: &mut [u16], at: usize, row: &[u16; ROW_WORDS], n: usize)
+    requires { ⌜ (at + n ≤ length (now words)) × (n ≤ row-words) ⌝ }
     ensures { λ r. ⌜ now (words .exit) ≡ over at n (λ k w. getD (now (row .entry)) k 0) (now (words .entry)) ⌝ }
 {
     let mut i = 0;
@@ -272,19 +275,19 @@ fn store_row(words: &mut [u16], at: usize, row: &[u16; 32], n: usize)
 
 // The state written at `at`.
 pub fn store(words: &mut [u16], at: usize, s: State, regs: usize, slots: usize)
-    requires { ⌜ (at + 64 ≤ length (now words)) × (regs ≤ 32) × (slots ≤ 32) ⌝ }
+    requires { ⌜ (at + state-words ≤ length (now words)) × (regs ≤ max-regs) × (slots ≤ max-slots) ⌝ }
     ensures { λ r. ⌜ Stored (regs ∷ slots ∷ []) at s (now (words .entry)) (now (words .exit)) ⌝ }
 {
     store_row(words, at, &s[0], regs);
-    store_row(words, at + 32, &s[1], slots);
+    store_row(words, at + ROW_WORDS, &s[1], slots);
 }
 
 // Registers 0 to n - 1, each holding its own name.
-fn real_row(n: usize) -> [u16; 32]
-    requires { ⌜ n ≤ 32 ⌝ }
+fn real_row(n: usize) -> [u16; ROW_WORDS]
+    requires { ⌜ n ≤ row-words ⌝ }
     ensures { λ r. ⌜ cells-of n r ≡ row-of n (λ i. paper.named (real i) false) ⌝ }
 {
-    let mut row = [0u16; 32];
+    let mut row = [0u16; ROW_WORDS];
     let mut i = 0;
     while i < n {
         row[i] = 3328 + i as u16;
@@ -295,18 +298,18 @@ fn real_row(n: usize) -> [u16; 32]
 
 // The state of a block that no walk reaches.
 pub fn unreached_state(rule: Rule) -> State
-    ensures { λ r. ⌜ ((S : Sheet) → S .regs ≤ 32 → S .slots ≤ 32 → state-of (S .regs ∷ S .slots ∷ []) r ≡ unreached-state rule S) ⌝ }
+    ensures { λ r. ⌜ ((S : Sheet) → S .regs ≤ max-regs → S .slots ≤ max-slots → state-of (S .regs ∷ S .slots ∷ []) r ≡ unreached-state rule S) ⌝ }
 {
     match rule {
-        Rule::Old => [[0u16; 32]; 2],
-        Rule::House => [[1024u16; 32]; 2],
+        Rule::Old => [[0u16; ROW_WORDS]; 2],
+        Rule::House => [[1024u16; ROW_WORDS]; 2],
     }
 }
 
 // The state at the start of the entry block.
 pub fn entry_state(rule: Rule, regs: usize) -> State
-    requires { ⌜ regs ≤ 32 ⌝ }
-    ensures { λ r. ⌜ ((S : Sheet) → S .regs ≡ regs → S .slots ≤ 32 → state-of (S .regs ∷ S .slots ∷ []) r ≡ entry-state rule S) ⌝ }
+    requires { ⌜ regs ≤ max-regs ⌝ }
+    ensures { λ r. ⌜ ((S : Sheet) → S .regs ≡ regs → S .slots ≤ max-slots → state-of (S .regs ∷ S .slots ∷ []) r ≡ entry-state rule S) ⌝ }
 {
     let mut s = unreached_state(rule);
     let row = real_row(regs);

@@ -17,13 +17,13 @@ use Rattle.paper.specs.Answer.{Said, accepted, faulty, turned-away, said-of, sa
 use Rattle.paper.specs.declared.Rule.{Rule}
 use Rattle.paper.specs.declared.Answer.{Answer}
 use Rattle.paper.specs.declared.Answer.the-variants.{Accepted, Faulty, Refused}
+use Rattle.layout.specs.Layout.{regs-word, slots-word, blocks-word, state-at}
 use Rattle.walks.specs.Reading.{read-few}
-use Rattle.sheet.specs.Loaded.{regs-word, slots-word, blocks-word, sheet-of, Loaded}
+use Rattle.sheet.specs.Loaded.{sheet-of, Loaded}
 use Rattle.sheet.specs.Reading.{loading-of, Load}
 use Rattle.sheet.specs.declared.Loading as Loading
 use Rattle.sheet.specs.declared.Loading.the-variants as loading
 use Rattle.cells.specs.States.{stored-state}
-use Rattle.runs.specs.Layout.{state-at}
 use Rattle.runs.specs.Stands.{Analysed, analysed-sheet, analysed-loaded}
 use Rattle.report.specs.Missing.{missing-lines, MissingOf}
 use Rattle.report.specs.declared.Missing.{Missing}

@@ -1,26 +1,25 @@
 -- What a program writes: from the outcome of a call to the text at the start of the report.
-use mathlib.Core.Path.{_≡_, refl, sym, ap, _∙_, subst}
-use mathlib.Core.Bool.{Bool, true, false, cond, _||_}
-use mathlib.Core.Logic.{_⊎_, inl, inr, ⊎-elim}
+use mathlib.Core.Path.{_≡_, refl, ap, _∙_, subst}
+use mathlib.Core.Bool.{Bool, true, false, _||_}
+use mathlib.Core.Logic.{_⊎_, ⊎-elim}
 use mathlib.Core.List.{List, [], _∷_, _++_, append-assoc}
-use Prim.Native.Nat.{ℕ, _+_, _≤_, _<_}
-use native.Mathlib.Nat.{zero-add}
+use Prim.Native.Nat.{ℕ, _+_, _≤_}
 use native.Mathlib.Omega.{arith}
 use lib.Dec.{ltb}
 use lib.ListN.{length, drop, length-append}
-use lib.Seq.{sets-eq}
 use borrow.Author.Tests.{ltb-false}
 use Rattle.lists.specs.Sets.{Wrote, length-wrote}
 use Rattle.fields.specs.Spelling.{length-digits}
 use Rattle.paper.specs.Text.{Bytes, tab, line-feed, digits}
-use Rattle.paper.specs.Limits.{report-size, max-sheet}
+use Rattle.paper.specs.Limits.{report-size}
 use Rattle.paper.specs.Refusals.{Reading, loaded, refused, read}
 use Rattle.paper.specs.Report.{Line, behind-tabs, faults}
 use Rattle.paper.specs.Answer.{Said, accepted, faulty, turned-away, said-of, said-after, answer, letter-X, written, Lent, too-short, laid, zeros, Outcome, outcome-of, outcome}
 use Rattle.paper.specs.declared.Rule.{Rule}
 use Rattle.paper.specs.declared.Answer.{Answer}
 use Rattle.paper.specs.declared.Answer.the-variants.{Accepted, Faulty, Refused}
-use Rattle.checker.specs.Checked.{lent, refusal-text, AnswerWithin, Checked, text-of, lent-behind, Texted}
+use Rattle.report.specs.Reported.{wrote-laid}
+use Rattle.checker.specs.Checked.{lent, refusal-text, Checked, text-of, lent-behind, Texted}
 use Rattle.checker.proofs.Refused.{read-bounded}
 
 pub digits-short : (n : ℕ) → n ≤ 65537 → length (digits n) ≤ 5
@@ -43,12 +42,6 @@ refusal-length number line h k =
 laid-length : (text report : List ℕ) → length text ≤ length (laid text report)
 unfolding laid
 laid-length text report = omega (arith, length-append text (drop (length text) report))
-
-wrote-laid : {l xs l′ : List ℕ} {k : ℕ} → Wrote l 0 xs l′ k → k ≤ length l → l′ ≡ laid xs l
-unfolding laid
-wrote-laid {l} {xs} w h =
-    let z : 0 + length xs ≡ length xs = omega arith in
-    w .list ∙ rw z at (sets-eq xs l 0 (omega (arith, w .next)))
 
 -- bytes are never refused by number 1
 said-number : (rule : Rule) (sheet : Bytes) (number line : ℕ) → answer rule sheet ≡ turned-away number line → 2 ≤ number

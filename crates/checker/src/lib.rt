@@ -9,17 +9,13 @@ ghost use Rattle.paper.specs.Report.{faults};
 ghost use Rattle.paper.specs.Answer as paper-answer;
 ghost use Rattle.sheet.specs.Loaded.{sheet-of, Loaded};
 ghost use Rattle.checker.specs.Checked.{lent, Few, refusal-text, Answered, Checked, Texted, verdict-of, rule-of, Exported};
+use layout::QUEUE_SIZE;
+use layout::REPORT_SIZE;
+use layout::WORDS_SIZE;
 use paper::Answer;
 use paper::Rule;
 use report::Missing;
 use sheet::Loading;
-
-// The least lengths of the lent buffers: bytes, words of 16 bits, bytes.
-pub const REPORT_SIZE: usize = 32784;
-
-pub const WORDS_SIZE: usize = 32768;
-
-pub const QUEUE_SIZE: usize = 16385;
 
 // An answer over the C interface: 0 accepted, 1 faulty, 2 refused; the report's length; the refusal's number and line.
 #[repr(C)]

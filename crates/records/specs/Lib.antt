@@ -1,3 +1,3 @@
 pub mod Records
 pub mod Parts
-pub mod Verdicts
+pub mod Pairs

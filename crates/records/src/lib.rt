@@ -8,9 +8,10 @@ ghost use native.Mathlib.Decide.{ℕ-discrete};
 ghost use lib.Dec.{eqb, leb};
 ghost use lib.ListN.{length, getD, take, drop};
 ghost use Rattle.lists.specs.Over.{over};
-ghost use Rattle.paper.specs.Limits.{max-slots, max-inst, max-operands};
+ghost use Rattle.paper.specs.Limits.{max-slots, max-succs, max-operands, max-inst};
 ghost use Rattle.paper.specs.Sheet.{Operand, Step, Sheet, change, operation, safepoint};
 ghost use Rattle.paper.specs.Refusals.{function-record, typed-record, block-record, step-record, function-of, typed-of, block-of, two-numbers-of, change-of, operation-of, safepoint-of, numbers-of, counted-operands-of, any, repeats, elsewhere, operand-beyond, name-beyond, beyond-limit};
+ghost use Rattle.layout.specs.Layout.{typed-words, defs-from, operand-words};
 ghost use Rattle.fields.specs.Fields.{fields-behind};
 ghost use Rattle.lists.specs.Bits.{set-bits};
 ghost use Rattle.cells.specs.Packed.{name-of-word};
@@ -20,6 +21,10 @@ ghost use Rattle.records.specs.Parts.{NumbersRead, operand-of-codes, Ope
 use fields::Allocation;
 use fields::Name;
 use fields::Number;
+use layout::DEFS_FROM;
+use layout::MAX_OPERANDS;
+use layout::MAX_SUCCS;
+use layout::OPERAND_WORDS;
 
 // A name and an allocation are read into one number each: from here on a real name, and no register.
 const REAL: u32 = 100000;
@@ -31,19 +36,19 @@ const NAMES: u32 = 200000;
 // The number of a line whose form is bad.
 const ILL_FORMED: u32 = 3;
 
-const MAX_REGS: u32 = 32;
+// The limits of a line's numbers, as it is read.
+const MAX_REGS: u32 = layout::MAX_REGS as u32;
 
-const MAX_SLOTS: u32 = 32;
+const MAX_SLOTS: u32 = layout::MAX_SLOTS as u32;
 
-const MAX_VREGS: u32 = 256;
+const MAX_VREGS: u32 = layout::MAX_VREGS as u32;
 
-const MAX_BLOCKS: u32 = 64;
+const MAX_BLOCKS: u32 = layout::MAX_BLOCKS as u32;
 
-const MAX_SUCCS: usize = 8;
+const MAX_INST: u32 = layout::MAX_INST as u32;
 
-const MAX_OPERANDS: usize = 8;
-
-const MAX_INST: u32 = 65535;
+// The count of numbers that is told where there are more than any line has, or where a field is none.
+const TOO_MANY: usize = MAX_SUCCS + 1;
 
 // `F`'s counts, which the lines behind it are held against.
 pub struct Counts {
@@ -74,7 +79,7 @@ pub struct TypedLine {
 pub struct BlockLine {
     pub number: u32,
     pub count: usize,
-    pub succs: [u32; 8],
+    pub succs: [u32; MAX_SUCCS],
     pub next: usize,
 }
 
@@ -99,7 +104,7 @@ pub struct OperationLine {
     pub inst: u32,
     pub n: usize,
     pub m: usize,
-    pub operands: [u16; 16],
+    pub operands: [u16; OPERAND_WORDS],
     pub next: usize,
 }
 
@@ -113,7 +118,7 @@ pub struct SafepointLine {
 // The numbers that are left of a line: how many, or 9 where a field is no number or a ninth stands there.
 pub struct Numbers {
     pub count: usize,
-    pub values: [u32; 8],
+    pub values: [u32; MAX_SUCCS],
     pub next: usize,
 }
 
@@ -137,8 +142,8 @@ pub struct Change {
 pub struct Operands {
     pub good: bool,
     pub count: usize,
-    pub names: [u32; 8],
-    pub registers: [u32; 8],
+    pub names: [u32; MAX_OPERANDS],
+    pub registers: [u32; MAX_OPERANDS],
     pub next: usize,
 }
 
@@ -226,20 +231,20 @@ fn read_numbers(s: &[u8], at: usize) -> Numbers
     requires { ⌜ Behind (now s) at ⌝ }
     ensures { λ r. ⌜ NumbersRead (now (s .entry)) at (r .count) (r .values) (r .next) ⌝ }
 {
-    let mut values = [0u32; 8];
+    let mut values = [0u32; MAX_SUCCS];
     let mut count: usize = 0;
     let mut i = at;
     while s[i] != b'\n' {
         let Number::Value(v, next) = number_behind(s, i) else {
             return Numbers {
-                count: 9,
+                count: TOO_MANY,
                 values,
                 next: i,
             };
         };
-        if count == 8 {
+        if count == MAX_SUCCS {
             return Numbers {
-                count: 9,
+                count: TOO_MANY,
                 values,
                 next: i,
             };
@@ -265,8 +270,8 @@ fn function_beyond(regs: u32, slots: u32, vregs: u32, blocks: u32, entry: u32) -
 }
 
 // Is one of the first `count` numbers at the limit or beyond it?
-fn any_beyond(values: [u32; 8], count: usize, limit: u32) -> bool
-    requires { ⌜ count ≤ 8 ⌝ }
+fn any_beyond(values: [u32; MAX_SUCCS], count: usize, limit: u32) -> bool
+    requires { ⌜ count ≤ max-succs ⌝ }
     ensures { λ r. ⌜ r ≡ any (leb limit) (take count values) ⌝ }
 {
     let mut i = 0;
@@ -392,7 +397,7 @@ fn name_beyond(name: u32, counts: Counts) -> bool
 
 // Is the name reference-typed? A real one never is.
 fn refers(typed: &[u16], name: u32) -> bool
-    requires { ⌜ length (now typed) ≡ 256 ⌝ }
+    requires { ⌜ length (now typed) ≡ typed-words ⌝ }
     ensures { λ r. ⌜ r ≡ refers (now (typed .entry)) name ⌝ }
 {
     if name < 256 {
@@ -475,7 +480,7 @@ fn read_change(s: &[u8], at: usize) -> Change
 
 // `C inst slot from to`: the names come in nine bits each.
 pub fn change_line(s: &[u8], at: usize, counts: Counts, typed: &[u16]) -> ChangeLine
-    requires { ⌜ Behind (now s) at × (length (now typed) ≡ 256) × CountsWithin counts ⌝ }
+    requires { ⌜ Behind (now s) at × (length (now typed) ≡ typed-words) × CountsWithin counts ⌝ }
     ensures { λ r. ⌜ ((S : Sheet) → Counted S counts → TypedBy S (now (typed .entry)) → Told S (now (s .entry)) at (change-of (fields-behind (now (s .entry)) at)) (r .number) (r .next) (step-record (change (r .inst) (r .slot) (name-of-word (r .from)) (name-of-word (r .to))))) ⌝ }
     ensures within { λ r. ⌜ (r .number ≡ 0 → ChangeWithin (counts .slots) (r .inst) (r .slot) (r .from) (r .to)) ⌝ }
 {
@@ -528,8 +533,8 @@ fn read_operands(s: &[u8], at: usize) -> Operands
     ensures { λ r. ⌜ (r .good ≡ true → OperandsRead (now (s .entry)) at r) ⌝ }
     ensures bad { λ r. ⌜ (r .good ≡ false → counted-operands-of (fields-behind (now (s .entry)) at) ≡ none) ⌝ }
 {
-    let mut names = [0u32; 8];
-    let mut registers = [0u32; 8];
+    let mut names = [0u32; MAX_OPERANDS];
+    let mut registers = [0u32; MAX_OPERANDS];
     let Number::Value(n, first) = number_behind(s, at) else {
         return Operands {
             good: false,
@@ -551,7 +556,7 @@ fn read_operands(s: &[u8], at: usize) -> Operands
                 next: i,
             };
         };
-        if count < 8 {
+        if count < MAX_OPERANDS {
             names[count] = name;
             registers[count] = register;
         }
@@ -593,8 +598,8 @@ fn operand_beyond(name: u32, register: u32, counts: Counts) -> bool
 }
 
 // Is the code one of those from `from` on, up to `count`?
-fn appears(codes: [u32; 8], from: usize, count: usize, code: u32) -> bool
-    requires { ⌜ count ≤ 8 ⌝ }
+fn appears(codes: [u32; MAX_OPERANDS], from: usize, count: usize, code: u32) -> bool
+    requires { ⌜ count ≤ max-operands ⌝ }
     ensures { λ r. ⌜ r ≡ any (eqb code) (drop from (take count codes)) ⌝ }
 {
     let mut i = from;
@@ -608,8 +613,8 @@ fn appears(codes: [u32; 8], from: usize, count: usize, code: u32) -> bool
 }
 
 // Does a code below the limit stand twice among the first `count`?
-fn repeated(codes: [u32; 8], count: usize, limit: u32) -> bool
-    requires { ⌜ count ≤ 8 ⌝ }
+fn repeated(codes: [u32; MAX_OPERANDS], count: usize, limit: u32) -> bool
+    requires { ⌜ count ≤ max-operands ⌝ }
     ensures { λ r. ⌜ r ≡ repeats ℕ-discrete (below limit (take count codes)) ⌝ }
 {
     let mut i = 0;
@@ -684,7 +689,7 @@ fn register_word(register: u32) -> u16
 }
 
 fn mark_word(typed: &[u16], name: u32) -> u16
-    requires { ⌜ length (now typed) ≡ 256 ⌝ }
+    requires { ⌜ length (now typed) ≡ typed-words ⌝ }
     ensures { λ r. ⌜ r ≡ mark-word (now (typed .entry)) name ⌝ }
 {
     if refers(typed, name) { 512 } else { 0 }
@@ -692,15 +697,20 @@ fn mark_word(typed: &[u16], name: u32) -> u16
 
 // An operand in one word: register * 1024 + mark * 512 + name, with register 63 for none.
 fn operand_word(name: u32, register: u32, typed: &[u16]) -> u16
-    requires { ⌜ (length (now typed) ≡ 256) × Small name register ⌝ }
+    requires { ⌜ (length (now typed) ≡ typed-words) × Small name register ⌝ }
     ensures { λ r. ⌜ r ≡ word (now (typed .entry)) name register ⌝ }
 {
     register_word(register) * 1024 + mark_word(typed, name) + name_word(name)
 }
 
 // The words of a group, from `from` on.
-fn pack(words: [u16; 16], from: usize, g: Operands, typed: &[u16]) -> [u16; 16]
-    requires { ⌜ (length (now typed) ≡ 256) × (from + g .count ≤ 16) × (g .count ≤ max-operands) × ((k : ℕ) → k < g .count → Small (getD (g .names) k 0) (getD (g .registers) k 0)) ⌝ }
+fn pack(
+    words: [u16; OPERAND_WORDS],
+    from: usize,
+    g: Operands,
+    typed: &[u16],
+) -> [u16; OPERAND_WORDS]
+    requires { ⌜ (length (now typed) ≡ typed-words) × (from + g .count ≤ operand-words) × (g .count ≤ max-operands) × ((k : ℕ) → k < g .count → Small (getD (g .names) k 0) (getD (g .registers) k 0)) ⌝ }
     ensures { λ r. ⌜ r ≡ over from (g .count) (λ k x. word (now (typed .entry)) (getD (g .names) k 0) (getD (g .registers) k 0)) words ⌝ }
 {
     let mut out = words;
@@ -722,16 +732,16 @@ fn no_operation(number: u32, next: usize) -> OperationLine
         inst: 0,
         n: 0,
         m: 0,
-        operands: [0u16; 16],
+        operands: [0u16; OPERAND_WORDS],
         next,
     }
 }
 
-// `O inst n (name reg)*n m (name reg)*m`: the uses' words stand at 0, the defs' at 8.
+// `O inst n (name reg)*n m (name reg)*m`: the uses' words stand at 0, the defs' at DEFS_FROM.
 pub fn operation_line(s: &[u8], at: usize, counts: Counts, typed: &[u16]) -> OperationLine
-    requires { ⌜ Behind (now s) at × (length (now typed) ≡ 256) × CountsWithin counts ⌝ }
-    ensures { λ r. ⌜ ((S : Sheet) → Counted S counts → Told S (now (s .entry)) at (operation-of (fields-behind (now (s .entry)) at)) (r .number) (r .next) (step-record (operation (r .inst) (operands 0 (r .n) (r .operands)) (operands 8 (r .m) (r .operands))))) ⌝ }
-    ensures within { λ r. ⌜ (r .number ≡ 0 → (S : Sheet) → Counted S counts → TypedBy S (now (typed .entry)) → (r .inst ≤ max-inst) × GroupWithin S (counts .regs) 0 (r .n) (r .operands) × GroupWithin S (counts .regs) 8 (r .m) (r .operands)) ⌝ }
+    requires { ⌜ Behind (now s) at × (length (now typed) ≡ typed-words) × CountsWithin counts ⌝ }
+    ensures { λ r. ⌜ ((S : Sheet) → Counted S counts → Told S (now (s .entry)) at (operation-of (fields-behind (now (s .entry)) at)) (r .number) (r .next) (step-record (operation (r .inst) (operands 0 (r .n) (r .operands)) (operands defs-from (r .m) (r .operands))))) ⌝ }
+    ensures within { λ r. ⌜ (r .number ≡ 0 → (S : Sheet) → Counted S counts → TypedBy S (now (typed .entry)) → (r .inst ≤ max-inst) × GroupWithin S (counts .regs) 0 (r .n) (r .operands) × GroupWithin S (counts .regs) defs-from (r .m) (r .operands)) ⌝ }
 {
     let Number::Value(inst, first) = number_behind(s, at) else {
         return no_operation(ILL_FORMED, at);
@@ -757,7 +767,12 @@ pub fn operation_line(s: &[u8], at: usize, counts: Counts, typed: &[u16]) -> Ope
         inst,
         n: uses.count,
         m: defs.count,
-        operands: pack(pack([0u16; 16], 0, uses, typed), 8, defs, typed),
+        operands: pack(
+            pack([0u16; OPERAND_WORDS], 0, uses, typed),
+            DEFS_FROM,
+            defs,
+            typed,
+        ),
         next,
     }
 }

@@ -1,6 +1,9 @@
 // Standard input to standard output: the house report of the sheet, or `X number line` for a refusal.
 ghost use Prim.Native.Nat.{_≤_};
 ghost use lib.ListN.{length};
+use layout::QUEUE_SIZE;
+use layout::REPORT_SIZE;
+use layout::WORDS_SIZE;
 use libc::STDIN_FILENO;
 use libc::STDOUT_FILENO;
 use paper::Rule;
@@ -42,9 +45,9 @@ fn read_sheet(room: &mut [u8]) -> Input
 fn main() {
     // One byte more than the longest sheet, so that a longer one is seen to be too long.
     let mut sheet = [0u8; 65537];
-    let mut report = [0u8; 32784];
-    let mut words = [0u16; 32768];
-    let mut queue = [0u8; 16385];
+    let mut report = [0u8; REPORT_SIZE];
+    let mut words = [0u16; WORDS_SIZE];
+    let mut queue = [0u8; QUEUE_SIZE];
     let input = read_sheet(&mut sheet);
     if input.failed {
         os::fail(b"regcheck: standard input");

@@ -1,6 +1,9 @@
 // Runs a stored list of the oracle's answers: standard input is frames, each sheet followed by its old answer, its house answer,
 // its old and its house entry states. Each is computed anew and compared; the last line says how many sheets differ.
 use frames::Frame;
+use layout::QUEUE_SIZE;
+use layout::REPORT_SIZE;
+use layout::WORDS_SIZE;
 use paper::Rule;
 use tally::Outcome;
 use tally::Tally;
@@ -20,8 +23,8 @@ fn same_answers(
     sheet: &[u8],
     stored: &mut [u8],
     text: &mut [u8],
-    words: &mut [u16; 32768],
-    queue: &mut [u8; 16385],
+    words: &mut [u16; WORDS_SIZE],
+    queue: &mut [u8; QUEUE_SIZE],
 ) -> bool {
     let old = checker::answer_text(Rule::Old, sheet, text, words, queue);
     let first = next_is(&text[..old], stored);
@@ -35,8 +38,8 @@ fn same_states(
     sheet: &[u8],
     stored: &mut [u8],
     text: &mut [u8],
-    words: &mut [u16; 32768],
-    queue: &mut [u8; 16385],
+    words: &mut [u16; WORDS_SIZE],
+    queue: &mut [u8; QUEUE_SIZE],
 ) -> bool {
     let old = states::entry_states(Rule::Old, sheet, text, words, queue);
     let first = next_is(&text[..old], stored);
@@ -50,8 +53,8 @@ fn one(
     sheet: &mut [u8],
     stored: &mut [u8],
     text: &mut [u8],
-    words: &mut [u16; 32768],
-    queue: &mut [u8; 16385],
+    words: &mut [u16; WORDS_SIZE],
+    queue: &mut [u8; QUEUE_SIZE],
 ) -> Outcome {
     let frame = frames::read(sheet);
     let Frame::Read(length) = frame else {
@@ -69,9 +72,9 @@ fn one(
 fn main() {
     let mut sheet = [0u8; 70000];
     let mut stored = [0u8; 70000];
-    let mut text = [0u8; 32784];
-    let mut words = [0u16; 32768];
-    let mut queue = [0u8; 16385];
+    let mut text = [0u8; REPORT_SIZE];
+    let mut words = [0u16; WORDS_SIZE];
+    let mut queue = [0u8; QUEUE_SIZE];
     let mut tally = Tally {
         same: 0,
         different: 0,

@@ -9,21 +9,22 @@ use lib.ListN.{length, getD}
 use Rattle.paper.specs.Sheet.{reference-typed}
 use Rattle.paper.specs.Steps.{Fault, check, effect, effects}
 use Rattle.paper.specs.Runs.{checked-from}
-use Rattle.paper.specs.Limits.{max-steps}
-use Rattle.paper.specs.Report.{inst-of, faults-from, block-faults, by-block, find-errors, missing-allocations}
+use Rattle.paper.specs.Limits.{max-regs, max-slots, max-blocks, max-steps}
+use Rattle.paper.specs.Report.{inst-of, faults-from, block-faults, by-block, find-errors}
 use Rattle.paper.specs.declared.Rule.{Rule}
+use Rattle.layout.specs.Layout.{regs-word, slots-word, blocks-word, opened-word, steps-word, state-base, state-words, all-words}
 use Rattle.cells.specs.States.{state-of, stored-state}
-use Rattle.steps.specs.Layout.{most-steps, state-base, state-words, all-words}
-use Rattle.steps.specs.Actions.{step-of, action-at, steps-at, InRange, Honest, RoomFor}
-use Rattle.steps.specs.Laws.{ranged-room, allocated}
+use Rattle.steps.specs.Actions.{step-of, action-at, steps-at, RoomFor}
+use Rattle.steps.specs.Laws.{room-within}
+use Rattle.steps.specs.Same.{length-steps, steps-more}
 use Rattle.steps.specs.declared.Action.{Action}
-use Rattle.sheet.specs.Loaded.{regs-word, slots-word, blocks-word, steps-word, opened-word, first-step, step-total, sheet-of, Loaded}
+use Rattle.sheet.specs.Loaded.{first-step, step-total, sheet-of, Loaded}
+use Rattle.sheet.specs.Blocks.{steps-in-words}
 use Rattle.report.specs.Passes.{Noted, fault-lines}
 use Rattle.report.specs.Reported.{Checkable}
 use Rattle.report.specs.declared.Pass.{Pass}
 use Rattle.report.proofs.LawsPasses.{noted-none, noted-then}
-use Rattle.report.proofs.LawsFaults.{length-steps, steps-more, effects-more, faults-more, by-block-more, steps-in, count-from, count-more, count-below}
-use Rattle.report.proofs.LawsMissing.{block-none, step-none}
+use Rattle.report.proofs.LawsFaults.{effects-more, faults-more, by-block-more, count-from, count-more, count-below}
 
 abbrev pub counts-of : List ℕ → List ℕ
 counts-of words = getD words regs-word 0 ∷ getD words slots-word 0 ∷ []
@@ -35,13 +36,13 @@ pub record SoFar (pass : Pass) (rule : Rule) (words : List ℕ) (block place : �
 
 -- the bounds of a block of a loaded sheet
 pub record BlockWithin (words : List ℕ) (block : ℕ) : Type 0 where
-  pub few : block < 64
+  pub few : block < max-blocks
   pub opened : block < getD words opened-word 0
   pub steps : first-step words block + step-total words block ≤ getD words steps-word 0
-  pub most : getD words steps-word 0 ≤ most-steps
+  pub most : getD words steps-word 0 ≤ max-steps
   pub size : all-words ≤ length words
-  pub regs : getD words regs-word 0 ≤ 32
-  pub slots : getD words slots-word 0 ≤ 32
+  pub regs : getD words regs-word 0 ≤ max-regs
+  pub slots : getD words slots-word 0 ≤ max-slots
 
 pub block-within : {words : List ℕ} {block : ℕ} → Loaded words → block < getD words blocks-word 0 → BlockWithin words block
 block-within {words} {block} l h =
@@ -59,25 +60,9 @@ block-within {words} {block} l h =
 
 -- the operands of a step lie in the words
 pub room-at : {words : List ℕ} → Loaded words → (k : ℕ) → k < getD words steps-word 0 → RoomFor (action-at words k) words
-room-at {words} l k h = ranged-room (getD words regs-word 0) (getD words slots-word 0) words (action-at words k) (l .bounds .each-step k h .ranged)
+room-at {words} l k h = room-within _ _ _ words (action-at words k) (l .bounds .each-step k h .ranged)
 
 module _ {rule : Rule} {words : List ℕ} {block : ℕ} (C : Checkable rule words) (h : block < getD words blocks-word 0) where
-  pub in-range-at : (place : ℕ) → place < step-total words block
-      → InRange (getD words regs-word 0) (getD words slots-word 0) words (action-at words (first-step words block + place))
-  unfolding missing-allocations sheet-of
-  in-range-at place hp =
-      let B : BlockWithin words block = block-within (C .loaded) h in
-      let z : 0 + block ≡ block = omega arith in
-      let none = rw (z, steps-in words block (B .opened)) at (block-none (sheet-of words) 0 block _ h (C .allocated)) in
-      allocated _ _ words _ (C .loaded .bounds .each-step (first-step words block + place) (omega (arith, B .steps)) .ranged)
-      (step-none words block 0 (first-step words block) place (step-total words block) hp none)
-
-  pub honest-at : (place : ℕ) → place < step-total words block
-      → Honest (reference-typed (sheet-of words)) words (action-at words (first-step words block + place))
-  honest-at place hp =
-      let B : BlockWithin words block = block-within (C .loaded) h in
-      C .loaded .bounds .each-step (first-step words block + place) (omega (arith, B .steps)) .honest
-
   -- nothing is checked yet
   pub so-far-none : (pass : Pass) (t : List (List ℕ)) (report : List ℕ) (at : ℕ) → state-of (counts-of words) t ≡ stored-state (counts-of words) (state-base + block * state-words) words
       → SoFar pass rule words block 0 t report at report at
@@ -88,7 +73,7 @@ module _ {rule : Rule} {words : List ℕ} {block : ℕ} (C : Checkable rule word
   pub so-far-all : {pass : Pass} {t : List (List ℕ)} {report₀ report : List ℕ} {at next : ℕ} → SoFar pass rule words block (step-total words block) t report₀ at report next
       → Noted pass (block-faults rule (sheet-of words) block) report₀ at report next
   unfolding block-faults
-  so-far-all s = rw (steps-in words block (block-within (C .loaded) h .opened)) (s .noted)
+  so-far-all s = rw (steps-in-words words block (block-within (C .loaded) h .opened)) (s .noted)
 
 -- one step more
 pub so-far-more : {pass : Pass} {rule : Rule} {words : List ℕ} {block place : ℕ} {t u : List (List ℕ)} {report₀ report report′ : List ℕ} {at next next′ : ℕ}

@@ -1,15 +1,15 @@
--- The search for the first step that has an operand with no allocation, its lines, and what it means that there is none.
+-- The search for the first step that has an operand with no allocation, and its lines.
 use mathlib.Core.Path.{_≡_, refl, sym, ap, _∙_}
 use mathlib.Core.Bool.{true, false, true≢false}
-use mathlib.Core.List.{List, [], _∷_, map, nil≢cons}
-use Prim.Native.Nat.{ℕ, zero, suc, _+_, _-_, _≤_, _<_}
+use mathlib.Core.List.{List, [], _∷_, map}
+use Prim.Native.Nat.{ℕ, suc, _+_, _-_, _≤_, _<_}
 use native.Mathlib.Numerals.{add-one}
 use native.Mathlib.Omega.{arith}
 use Rattle.paper.specs.Sheet.{Sheet, steps-of}
 use Rattle.paper.specs.Report.{Line, inst-of, first-list, unallocated, missing-names, missing-from, missing-blocks, faults}
 use Rattle.paper.specs.declared.Rule.{Rule}
+use Rattle.layout.specs.Layout.{defs-from}
 use Rattle.steps.specs.Actions.{operands, step-of, action-at, steps-at}
-use Rattle.steps.specs.Layout.{defs-from}
 use Rattle.steps.specs.Faults.{some-in}
 use Rattle.steps.specs.declared.Action.the-variants.{Operation}
 use Rattle.sheet.specs.Loaded.{sheet-of}
@@ -28,11 +28,6 @@ none-in : {A : Type 0} (xs : List A) → some-in xs ≡ false → xs ≡ []
 unfolding some-in
 none-in [] e = refl
 none-in (x ∷ xs) e = absurd (true≢false e)
-
-both-none : {A : Type 0} (xs ys : List A) → first-list xs ys ≡ [] → (xs ≡ []) × (ys ≡ [])
-unfolding first-list
-both-none [] ys e = (refl, e)
-both-none (x ∷ xs) ys e = absurd (nil≢cons (sym e))
 
 some-mapped : {A B : Type 0} (f : A → B) (xs : List A) → some-in (map f xs) ≡ some-in xs
 unfolding some-in
@@ -130,25 +125,3 @@ module _ (words : List ℕ) (inst at n m : ℕ) where
       → step-lines block place (step-of words (Operation inst at n m)) ≡ names-lines block place inst (unallocated (operands (at + defs-from) m words))
   unfolding step-lines step-of inst-of
   lines-of-defs block place e = ap (names-lines block place inst) (uses-none e)
-
--- ---- nothing is missing
-
-pub block-none : (S : Sheet) (b i n : ℕ) → i < n → missing-blocks S b n ≡ [] → missing-from (b + i) 0 (steps-of S (b + i)) ≡ []
-unfolding missing-blocks
-block-none S b i zero h e = absurd (omega arith)
-block-none S b zero (suc n) h e = let z : b + 0 ≡ b = omega arith in rw z (both-none _ _ e .0)
-block-none S b (suc i) (suc n) h e =
-    let z : suc b + i ≡ b + suc i = omega arith in
-    rw z at (block-none S (suc b) i n (omega arith) (both-none _ _ e .1))
-
-mapped-none : {A B : Type 0} (f : A → B) (xs : List A) → map f xs ≡ [] → xs ≡ []
-mapped-none f [] e = refl
-mapped-none f (x ∷ xs) e = absurd (nil≢cons (sym e))
-
-pub step-none : (words : List ℕ) (b place k i n : ℕ) → i < n → missing-from b place (steps-at words k n) ≡ [] → missing-names (step-of words (action-at words (k + i))) ≡ []
-unfolding missing-from steps-at
-step-none words b place k i zero h e = absurd (omega arith)
-step-none words b place k zero (suc n) h e = let z : k + 0 ≡ k = omega arith in rw z (mapped-none _ _ (both-none _ _ e .0))
-step-none words b place k (suc i) (suc n) h e =
-    let z : k + 1 + i ≡ k + suc i = omega arith in
-    rw z at (step-none words b (suc place) (k + 1) i n (omega arith) (both-none _ _ e .1))

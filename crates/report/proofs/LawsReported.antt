@@ -2,23 +2,21 @@
 use mathlib.Core.Path.{_≡_, refl, sym, ap, _∙_}
 use mathlib.Core.Bool.{true, true≢false}
 use mathlib.Core.List.{List, [], _∷_}
-use Prim.Native.Nat.{ℕ, suc, _+_, _≤_}
+use Prim.Native.Nat.{ℕ, suc, _≤_}
 use native.Mathlib.Omega.{arith}
 use lib.ListN.{length}
-use lib.Seq.{sets-eq}
 use Rattle.lists.specs.Sets.{Wrote, then}
 use Rattle.paper.specs.Limits.{report-size}
 use Rattle.paper.specs.Text.{Name}
 use Rattle.paper.specs.Sheet.{Sheet}
 use Rattle.paper.specs.Report.{Line, first-list, missing-allocations, find-errors, faults, lines-text, report-text}
-use Rattle.paper.specs.Answer.{laid}
 use Rattle.paper.specs.declared.Rule.{Rule}
 use Rattle.paper.specs.declared.Answer.the-variants.{Accepted, Faulty}
 use Rattle.report.specs.Lines.{header-text}
 use Rattle.steps.specs.Faults.{some-in}
 use Rattle.report.specs.Passes.{noted-list, noted-size, Noted}
 use Rattle.report.specs.Missing.{names-lines}
-use Rattle.report.specs.Reported.{answered, Reported}
+use Rattle.report.specs.Reported.{answered, Reported, wrote-laid}
 use Rattle.report.specs.declared.Pass.the-variants.{Count, Write}
 use Rattle.report.proofs.LawsPasses.{noted-wrote}
 
@@ -27,12 +25,6 @@ wrote-report : (rule : Rule) (ls : List Line) {l l₁ l₂ : List ℕ} {j k : �
     → Wrote l 0 (report-text rule ls) l₂ k
 unfolding report-text header-text
 wrote-report rule ls p q = then p q
-
-wrote-laid : {l xs l′ : List ℕ} {k : ℕ} → Wrote l 0 xs l′ k → k ≤ length l → l′ ≡ laid xs l
-unfolding laid
-wrote-laid {l} {xs} w h =
-    let z : 0 + length xs ≡ length xs = omega arith in
-    w .list ∙ rw z at (sets-eq xs l 0 (omega (arith, w .next)))
 
 faulty : (rule : Rule) (ls : List Line) (k : ℕ) → k ≡ length (report-text rule ls) → (length ls ≡ 0 → ⊥) → Faulty k ≡ answered rule ls
 unfolding answered

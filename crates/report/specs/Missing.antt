@@ -9,9 +9,10 @@ use Rattle.paper.specs.Sheet.{Step}
 use Rattle.paper.specs.Steps.{missing-allocation-for-reg}
 use Rattle.paper.specs.Limits.{max-steps}
 use Rattle.paper.specs.Report.{Line, inst-of, missing-names, missing-allocations}
+use Rattle.layout.specs.Layout.{blocks-word, steps-word}
 use Rattle.steps.specs.Actions.{action-at, step-of}
 use Rattle.steps.specs.Faults.{some-in}
-use Rattle.sheet.specs.Loaded.{blocks-word, steps-word, sheet-of}
+use Rattle.sheet.specs.Loaded.{sheet-of}
 use Rattle.report.specs.declared.Missing.{Missing}
 use Rattle.report.specs.declared.Missing.the-variants.{Nothing, Found}
 

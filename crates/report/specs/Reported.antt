@@ -1,8 +1,11 @@
 -- What the report's functions ask of the words, and what they promise: the answer, and the text at the start of the report.
-use mathlib.Core.Path.{_≡_}
+use mathlib.Core.Path.{_≡_, _∙_}
 use mathlib.Core.List.{List, [], _∷_}
 use Prim.Native.Nat.{ℕ, _+_, _*_, _≤_, _<_}
+use native.Mathlib.Omega.{arith}
 use lib.ListN.{length, getD}
+use lib.Seq.{sets-eq}
+use Rattle.lists.specs.Sets.{Wrote}
 use Rattle.paper.specs.Limits.{max-steps, report-size}
 use Rattle.paper.specs.Refusals.{step-count}
 use Rattle.paper.specs.Runs.{checked-from}
@@ -11,9 +14,9 @@ use Rattle.paper.specs.Answer.{laid}
 use Rattle.paper.specs.declared.Rule.{Rule}
 use Rattle.paper.specs.declared.Answer.{Answer}
 use Rattle.paper.specs.declared.Answer.the-variants.{Accepted, Faulty}
+use Rattle.layout.specs.Layout.{regs-word, slots-word, blocks-word, state-base, state-words}
 use Rattle.cells.specs.States.{stored-state}
-use Rattle.steps.specs.Layout.{state-base, state-words}
-use Rattle.sheet.specs.Loaded.{regs-word, slots-word, blocks-word, sheet-of, Loaded}
+use Rattle.sheet.specs.Loaded.{sheet-of, Loaded}
 
 -- the words hold a sheet with every operand allocated, and each block's state behind the analysis
 pub record Checkable (rule : Rule) (words : List ℕ) : Type 0 where
@@ -32,3 +35,10 @@ pub record Reported (rule : Rule) (ls : List Line) (report : List ℕ) (r : Answ
   pub answer : r ≡ answered rule ls
   pub text : report′ ≡ laid (report-text rule ls) report
   pub fits : length (report-text rule ls) ≤ report-size
+
+-- a text that was written at the start is laid there
+pub wrote-laid : {l xs l′ : List ℕ} {k : ℕ} → Wrote l 0 xs l′ k → k ≤ length l → l′ ≡ laid xs l
+unfolding laid
+wrote-laid {l} {xs} w h =
+    let z : 0 + length xs ≡ length xs = omega arith in
+    w .list ∙ rw z at (sets-eq xs l 0 (omega (arith, w .next)))

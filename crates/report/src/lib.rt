@@ -9,31 +9,30 @@ ghost use Rattle.paper.specs.Text.{tab, digits, name-text};
 ghost use Rattle.paper.specs.Sheet.{steps-of};
 ghost use Rattle.paper.specs.Limits.{max-blocks, max-operands, max-steps, report-size};
 ghost use Rattle.paper.specs.Report.{block-faults, find-errors, unallocated, missing-from, faults, behind-tabs, rule-text, lines-text};
+ghost use Rattle.layout.specs.Layout.{blocks-word};
 ghost use Rattle.cells.specs.Packed.{name-of-word};
 ghost use Rattle.steps.specs.Actions.{operand-of, operands};
 ghost use Rattle.steps.specs.Faults.{fault-of, some-in};
-ghost use Rattle.sheet.specs.Loaded.{blocks-word, step-total, sheet-of, Loaded};
+ghost use Rattle.sheet.specs.Loaded.{step-total, sheet-of, Loaded};
 ghost use Rattle.report.specs.Lines.{longest-line, field-text, field-texts, fields-line, header-text, FieldsOf, ErrorWithin};
 ghost use Rattle.report.specs.Passes.{Noted, fault-lines};
 ghost use Rattle.report.specs.Missing.{names-lines, is-found, MissingIs, MissingOf};
 ghost use Rattle.report.specs.Reported.{Checkable, Reported};
 ghost use Rattle.report.specs.declared.Missing.the-variants.{Found};
+use layout::BLOCK_BASE;
+use layout::BLOCK_WORDS;
+use layout::BLOCKS_WORD;
+use layout::DEFS_FROM;
+use layout::REGS_WORD;
+use layout::SLOTS_WORD;
+use layout::STATE_BASE;
+use layout::STATE_WORDS;
+use layout::STEP_TOTAL_WORD;
 use paper::Answer;
 use paper::Rule;
 use steps::Action;
-use steps::BLOCK_BASE;
-use steps::BLOCK_WORDS;
 use steps::CheckerError;
-use steps::DEFS_FROM;
 use steps::NO_REGISTER;
-use steps::STATE_BASE;
-use steps::STATE_WORDS;
-
-const REGS_WORD: usize = 0;
-
-const SLOTS_WORD: usize = 1;
-
-const BLOCKS_WORD: usize = 3;
 
 // A field of an `E` line: `-`, `rN`, `sN`, or a name's nine bits.
 pub enum Field {
@@ -359,7 +358,7 @@ fn find_in_block(words: &[u16], block: usize) -> Missing
 {
     let base = BLOCK_BASE + block * BLOCK_WORDS;
     let first = words[base] as usize;
-    let count = words[base + 1] as usize;
+    let count = words[base + STEP_TOTAL_WORD] as usize;
     let mut place = 0;
     while place < count {
         let k = first + place;
@@ -415,7 +414,7 @@ fn check_block(
     let slots = words[SLOTS_WORD] as usize;
     let base = BLOCK_BASE + block * BLOCK_WORDS;
     let first = words[base] as usize;
-    let count = words[base + 1] as usize;
+    let count = words[base + STEP_TOTAL_WORD] as usize;
     let mut t = cells::load(words, STATE_BASE + block * STATE_WORDS, regs, slots);
     let mut next = at;
     let mut place = 0;

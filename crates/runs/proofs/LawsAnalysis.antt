@@ -12,10 +12,11 @@ use Rattle.paper.specs.Runs.{Run, step, run, flow, begin, visit-bound, analysis
 use Rattle.paper.specs.Report.{missing-allocations}
 use Rattle.paper.specs.Limits.{queue-size}
 use Rattle.paper.specs.declared.Rule.{Rule}
+use Rattle.layout.specs.Layout.{blocks-word}
 use Rattle.walks.specs.Running.{run-suc}
 use Rattle.walks.specs.Loop.{Standing, standing-room, standing-step, standing-begin, stopped-early}
-use Rattle.sheet.specs.Loaded.{blocks-word, sheet-of, Loaded}
-use Rattle.runs.specs.Layout.{RunKept, held-state}
+use Rattle.sheet.specs.Loaded.{sheet-of, Loaded}
+use Rattle.runs.specs.Held.{RunKept, held-state}
 use Rattle.runs.specs.Queue.{held, held-from}
 use Rattle.runs.specs.Table.{mark-of, Tabled}
 use Rattle.runs.specs.Seen.{seen-step, seen-begin}

@@ -10,10 +10,11 @@ use Rattle.paper.specs.Steps.{entry-state, unreached-state}
 use Rattle.paper.specs.Runs.{before, begin, entered}
 use Rattle.paper.specs.declared.Rule.{Rule}
 use Rattle.paper.specs.declared.Rule.the-variants.{Old, House}
+use Rattle.paper.specs.Limits.{max-blocks}
+use Rattle.layout.specs.Layout.{regs-word, slots-word, blocks-word, entry-word, state-at, mark-at}
 use Rattle.cells.specs.States.{state-of, Stored}
-use Rattle.steps.specs.Layout.{most-blocks}
-use Rattle.sheet.specs.Loaded.{regs-word, slots-word, blocks-word, entry-word, sheet-of}
-use Rattle.runs.specs.Layout.{state-at, mark-at, RunKept, counts-of}
+use Rattle.sheet.specs.Loaded.{sheet-of}
+use Rattle.runs.specs.Held.{RunKept, counts-of}
 use Rattle.runs.specs.Queue.{Appended}
 use Rattle.runs.specs.Table.{Ready, Holds, mark-of, Tabled, Tables, Entered}
 use Rattle.runs.specs.Stands.{Begins}
@@ -60,7 +61,7 @@ module _ {rule : Rule} {words₀ words : List ℕ} {b : ℕ} (ready : Ready word
         (f .tabled);
   }
     where
-      small : b < most-blocks
+      small : b < max-blocks
       small = omega (arith, ready .loaded .bounds .blocks)
 
       alone : Alone b words (set words₁ (mark-at b) v)

@@ -10,7 +10,7 @@ use Rattle.paper.specs.Steps.{State}
 use Rattle.paper.specs.Runs.{Run, store, push-at, push, meet-states, state-same, flow}
 use Rattle.paper.specs.declared.Rule.{Rule}
 use Rattle.cells.specs.States.{state-of}
-use Rattle.runs.specs.Layout.{counts-of}
+use Rattle.runs.specs.Held.{counts-of}
 use Rattle.runs.specs.Queue.{Appended}
 use Rattle.runs.specs.Table.{joined, arrives, Came}
 use Rattle.runs.specs.Stands.{Moved}

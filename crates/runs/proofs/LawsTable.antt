@@ -15,12 +15,13 @@ use Rattle.paper.specs.Sheet.{Sheet}
 use Rattle.paper.specs.Steps.{State}
 use Rattle.paper.specs.Runs.{update, meet-states, state-same, entered}
 use Rattle.paper.specs.declared.Rule.{Rule}
+use Rattle.paper.specs.Limits.{max-blocks}
+use Rattle.layout.specs.Layout.{regs-word, slots-word, blocks-word, row-words, state-words, state-at, mark-at}
 use Rattle.walks.specs.Choices.{pick-yes, pick-no, update-same, update-other}
 use Rattle.cells.specs.Packed.{cell-of}
-use Rattle.cells.specs.States.{row-words, cells-of, state-of, rows-at, stored-state, MetWith, Stored}
-use Rattle.steps.specs.Layout.{most-blocks, state-words}
-use Rattle.sheet.specs.Loaded.{regs-word, slots-word, blocks-word, sheet-of}
-use Rattle.runs.specs.Layout.{state-at, mark-at, RunKept, counts-of, held-state}
+use Rattle.cells.specs.States.{cells-of, state-of, rows-at, stored-state, MetWith, Stored}
+use Rattle.sheet.specs.Loaded.{sheet-of}
+use Rattle.runs.specs.Held.{RunKept, counts-of, held-state}
 use Rattle.runs.specs.Sheets.{sheet-stays, loaded-stays}
 use Rattle.runs.specs.Table.{Ready, Holds, mark-of, unmarked, Tabled, Tables, joined, arrives, Came, Entered}
 
@@ -42,10 +43,10 @@ stored-stays words words′ (n ∷ counts) at e narrow fits same =
 -- only block b's words change
 pub record Alone (b : ℕ) (words words′ : List ℕ) : Type 0 where
   pub kept : RunKept words words′
-  pub states : (k : ℕ) → k < most-blocks → (k ≡ b → ⊥) → (i : ℕ) → state-at k ≤ i → i < state-at k + state-words → getD words′ i 0 ≡ getD words i 0
-  pub marks : (k : ℕ) → k < most-blocks → (k ≡ b → ⊥) → getD words′ (mark-at k) 0 ≡ getD words (mark-at k) 0
+  pub states : (k : ℕ) → k < max-blocks → (k ≡ b → ⊥) → (i : ℕ) → state-at k ≤ i → i < state-at k + state-words → getD words′ i 0 ≡ getD words i 0
+  pub marks : (k : ℕ) → k < max-blocks → (k ≡ b → ⊥) → getD words′ (mark-at k) 0 ≡ getD words (mark-at k) 0
 
-module _ {words words₁ : List ℕ} (b : ℕ) (h : b < most-blocks) (kept : Kept (state-at b) state-words words words₁) where
+module _ {words words₁ : List ℕ} (b : ℕ) (h : b < max-blocks) (kept : Kept (state-at b) state-words words words₁) where
   -- its state changes
   pub alone-state : Alone b words words₁
   alone-state = record {
@@ -72,21 +73,21 @@ module _ {S : Sheet} {words : List ℕ} (sheet : Holds S words) where
   unfolding sheet-of
   counts-are = ap counts-of (sym (sheet .is))
 
-  pub few-blocks : S .blocks ≤ most-blocks
+  pub few-blocks : S .blocks ≤ max-blocks
   few-blocks = rw blocks-are (sheet .ready .loaded .bounds .blocks)
 
   pub narrow : Narrow (counts-of S)
   narrow = subst Narrow (sym counts-are) (sheet .ready .loaded .bounds .regs, (sheet .ready .loaded .bounds .slots, tt))
 
 pub ready-stays : {words words′ : List ℕ} → RunKept words words′ → Ready words → Ready words′
-ready-stays kept r = record { loaded = loaded-stays kept (r .loaded .bounds .size) (r .loaded); room = rw (kept .same-length) (r .room) }
+ready-stays kept r = record { loaded = loaded-stays kept (r .loaded); room = rw (kept .same-length) (r .room) }
 
 pub holds-stays : {S : Sheet} {words words′ : List ℕ} → RunKept words words′ → Holds S words → Holds S words′
-holds-stays kept h = let L = h .ready .loaded .bounds in record { ready = ready-stays kept (h .ready); is = sheet-stays kept (L .size) L ∙ h .is }
+holds-stays kept h = record { ready = ready-stays kept (h .ready); is = sheet-stays kept (h .ready .loaded .bounds) ∙ h .is }
 
 module _ {rule : Rule} {S : Sheet} {words words′ : List ℕ} {b : ℕ} (sheet : Holds S words) (alone : Alone b words words′) where
   -- a table of n blocks before the change, and one of m after it
-  pub tabled-alone : {n m : ℕ} {table table′ : ℕ → Option State} → m ≤ most-blocks
+  pub tabled-alone : {n m : ℕ} {table table′ : ℕ → Option State} → m ≤ max-blocks
       → held-state S words′ b ≡ entered rule S (table′ b) → getD words′ (mark-at b) 0 ≡ mark-of (table′ b)
       → ((k : ℕ) → k < m → (k ≡ b → ⊥) → (k < n) × (table′ k ≡ table k)) → Tabled rule S n words table → Tabled rule S m words′ table′
   tabled-alone {n} {m} {table} {table′} le state mark other t = record { states = λ k h. states k h (ℕ-discrete k b); marks = λ k h. marks k h (ℕ-discrete k b) }
@@ -103,7 +104,7 @@ module _ {rule : Rule} {S : Sheet} {words words′ : List ℕ} {b : ℕ} (sheet 
       marks k h (no d) = alone .marks k (omega arith) d ∙ t .marks k (other k h d .0) ∙ ap mark-of (sym (other k h d .1))
 
 -- a state that is stored in block b's words, and then a mark
-module _ {S : Sheet} {words words₁ : List ℕ} {s : List (List ℕ)} (sheet : Holds S words) (b v : ℕ) (h : b < most-blocks)
+module _ {S : Sheet} {words words₁ : List ℕ} {s : List (List ℕ)} (sheet : Holds S words) (b v : ℕ) (h : b < max-blocks)
     (stored : Stored (getD words regs-word 0 ∷ getD words slots-word 0 ∷ []) (state-at b) s words words₁) where
   pub state-marked : held-state S (set words₁ (mark-at b) v) b ≡ state-of (counts-of S) s
   state-marked =
@@ -149,7 +150,7 @@ module _ {words : List ℕ} (b : ℕ) (s : List (List ℕ)) (h : b < getD words 
   pub entered-is : {words₁ : List ℕ} → Ready words → Stored (getD words regs-word 0 ∷ getD words slots-word 0 ∷ []) (state-at b) s words words₁ → Entered b s words (set words₁ (mark-at b) 1)
   entered-is {words₁} ready stored = record { kept = alone .kept; tables = tables }
     where
-      small : b < most-blocks
+      small : b < max-blocks
       small = omega (arith, ready .loaded .bounds .blocks)
 
       alone : Alone b words (set words₁ (mark-at b) 1)

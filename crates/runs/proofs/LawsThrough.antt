@@ -8,11 +8,12 @@ use Rattle.paper.specs.Text.{Name}
 use Rattle.paper.specs.Sheet.{Sheet, steps-of, reference-typed}
 use Rattle.paper.specs.Steps.{effects}
 use Rattle.paper.specs.declared.Rule.{Rule}
+use Rattle.layout.specs.Layout.{regs-word, slots-word, blocks-word, state-at}
 use Rattle.cells.specs.States.{state-of, stored-state}
 use Rattle.steps.specs.Actions.{steps-at, HonestSteps}
-use Rattle.sheet.specs.Loaded.{regs-word, slots-word, blocks-word, first-step, step-total, sheet-of}
-use Rattle.runs.specs.Layout.{state-at, counts-of, held-state}
-use Rattle.runs.specs.Sheets.{steps-in-words}
+use Rattle.sheet.specs.Loaded.{first-step, step-total, sheet-of}
+use Rattle.runs.specs.Held.{counts-of, held-state}
+use Rattle.sheet.specs.Blocks.{steps-in-words}
 use Rattle.runs.specs.Allowed.{loaded-honest}
 use Rattle.runs.specs.Table.{Ready, Through}
 

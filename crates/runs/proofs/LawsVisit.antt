@@ -14,16 +14,16 @@ use Rattle.paper.specs.Sheet.{Sheet, succs-of, steps-of, reference-typed}
 use Rattle.paper.specs.Steps.{State, effects}
 use Rattle.paper.specs.Runs.{Run, push, spread, visit-at, step-at, step, flow, visit-bound}
 use Rattle.paper.specs.Report.{missing-allocations}
-use Rattle.paper.specs.Limits.{max-succs, queue-size}
+use Rattle.paper.specs.Limits.{max-blocks, max-succs, queue-size}
 use Rattle.paper.specs.Walks.{In, here}
 use Rattle.paper.specs.declared.Rule.{Rule}
 use Rattle.paper.specs.declared.Rule.the-variants.{Old, House}
+use Rattle.layout.specs.Layout.{blocks-word, opened-word, succ-base, state-base, all-words, mark-at}
 use Rattle.walks.specs.Loop.{standing-room, standing-below, standing-inside}
 use Rattle.cells.specs.States.{state-of}
-use Rattle.steps.specs.Layout.{most-blocks, state-base, all-words}
-use Rattle.sheet.specs.Loaded.{blocks-word, opened-word, succ-total, succ-base, sheet-of, BlockBounds}
-use Rattle.runs.specs.Sheets.{succs-in-words}
-use Rattle.runs.specs.Layout.{mark-at, counts-of, held-state}
+use Rattle.sheet.specs.Loaded.{succ-total, sheet-of, BlockBounds}
+use Rattle.sheet.specs.Blocks.{succs-in-words}
+use Rattle.runs.specs.Held.{counts-of, held-state}
 use Rattle.runs.specs.Queue.{held, Sound, Taken}
 use Rattle.runs.specs.Table.{Ready, Holds, mark-of, Through}
 use Rattle.runs.specs.Stands.{Stands, Continues, Moved}
@@ -65,11 +65,11 @@ serving-more {rule} {words₀} {s = s} {from = from} {i = i} g l low fits m = re
 pub bound-fits : (rule : Rule) {S : Sheet} {words : List ℕ} → Holds S words → visit-bound rule S ≤ queue-size
 unfolding visit-bound
 bound-fits Old {S} h =
-    let e : S .blocks * (4 * (S .regs + S .slots)) ≤ most-blocks * (4 * (S .regs + S .slots)) = mul-le-mul-right _ (few-blocks h) in
+    let e : S .blocks * (4 * (S .regs + S .slots)) ≤ max-blocks * (4 * (S .regs + S .slots)) = mul-le-mul-right _ (few-blocks h) in
     let n = narrow h in
     omega (arith, n .0, n .1 .0)
 bound-fits House {S} h =
-    let e : S .blocks * (1 + 3 * (S .regs + S .slots)) ≤ most-blocks * (1 + 3 * (S .regs + S .slots)) = mul-le-mul-right _ (few-blocks h) in
+    let e : S .blocks * (1 + 3 * (S .regs + S .slots)) ≤ max-blocks * (1 + 3 * (S .regs + S .slots)) = mul-le-mul-right _ (few-blocks h) in
     let n = narrow h in
     omega (arith, n .0, n .1 .0)
 
@@ -81,7 +81,7 @@ step-is rule S r b queue a e f = rw (e, f)
 
 -- where the visited block's numbers stand, and how many successors it has
 pub record Visiting (words : List ℕ) (b : ℕ) : Type 0 where
-  pub small : b < most-blocks
+  pub small : b < max-blocks
   pub succs : succ-total words b ≤ max-succs
   pub size : all-words ≤ length words
 

@@ -1,4 +1,4 @@
-pub mod Layout
+pub mod Held
 pub mod Queue
 pub mod Table
 pub mod Seen

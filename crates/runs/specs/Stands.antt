@@ -10,11 +10,12 @@ use Rattle.paper.specs.Steps.{State}
 use Rattle.paper.specs.Runs.{Run, begin, analysis, checked-from}
 use Rattle.paper.specs.Report.{missing-allocations}
 use Rattle.paper.specs.declared.Rule.{Rule}
+use Rattle.layout.specs.Layout.{regs-word, slots-word, blocks-word, state-at, mark-at}
 use Rattle.walks.specs.Bounds.{Closed}
 use Rattle.walks.specs.Loop.{Standing}
 use Rattle.cells.specs.States.{stored-state}
-use Rattle.sheet.specs.Loaded.{regs-word, slots-word, blocks-word, sheet-of, Loaded}
-use Rattle.runs.specs.Layout.{state-at, mark-at, RunKept, held-state}
+use Rattle.sheet.specs.Loaded.{sheet-of, Loaded}
+use Rattle.runs.specs.Held.{RunKept, held-state}
 use Rattle.runs.specs.Queue.{held, Sound}
 use Rattle.runs.specs.Table.{mark-of, Tables}
 use Rattle.runs.specs.Sheets.{sheet-stays, loaded-stays}
@@ -64,10 +65,10 @@ pub record Analysed (rule : Rule) (words queue words′ queue′ : List ℕ) : T
 -- they hold the sheet that they held, and block b's state is read by the counts that they have
 module _ {rule : Rule} {words queue words′ queue′ : List ℕ} (loaded : Loaded words) (a : Analysed rule words queue words′ queue′) where
   pub analysed-sheet : sheet-of words′ ≡ sheet-of words
-  analysed-sheet = sheet-stays (a .kept) (loaded .bounds .size) (loaded .bounds)
+  analysed-sheet = sheet-stays (a .kept) (loaded .bounds)
 
   pub analysed-loaded : Loaded words′
-  analysed-loaded = loaded-stays (a .kept) (loaded .bounds .size) loaded
+  analysed-loaded = loaded-stays (a .kept) loaded
 
   pub analysed-state : (b : ℕ) → b < getD words blocks-word 0
       → stored-state (getD words′ regs-word 0 ∷ getD words′ slots-word 0 ∷ []) (state-at b) words′ ≡ checked-from rule (sheet-of words) b

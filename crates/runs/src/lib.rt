@@ -7,38 +7,29 @@ ghost use Rattle.paper.specs.Sheet.{Sheet};
 ghost use Rattle.paper.specs.Report.{missing-allocations};
 ghost use Rattle.paper.specs.Limits.{queue-size};
 ghost use Rattle.paper.specs.Runs as paper-runs;
+ghost use Rattle.layout.specs.Layout.{blocks-word, run-words};
 ghost use Rattle.cells.specs.Meeting.{meet-table};
 ghost use Rattle.cells.specs.States.{state-of};
-ghost use Rattle.sheet.specs.Loaded.{blocks-word, sheet-of, Loaded};
-ghost use Rattle.runs.specs.Layout.{run-words, RunKept, counts-of};
+ghost use Rattle.sheet.specs.Loaded.{sheet-of, Loaded};
+ghost use Rattle.runs.specs.Held.{RunKept, counts-of};
 ghost use Rattle.runs.specs.Queue.{place, Sound, Appended, Taken};
 ghost use Rattle.runs.specs.Table.{Ready, mark-of, Tables, Came, Entered, Through};
 ghost use Rattle.runs.specs.Stands.{Begins, Continues, Moved, Analysed};
 use cells::State;
+use layout::BLOCK_BASE;
+use layout::BLOCK_WORDS;
+use layout::BLOCKS_WORD;
+use layout::ENTRY_WORD;
+use layout::MARK_BASE;
+use layout::QUEUE_SIZE;
+use layout::REGS_WORD;
+use layout::SLOTS_WORD;
+use layout::STATE_BASE;
+use layout::STATE_WORDS;
+use layout::STEP_TOTAL_WORD;
+use layout::SUCC_TOTAL_WORD;
+use layout::SUCCS_FROM;
 use paper::Rule;
-use steps::ALL_WORDS;
-use steps::BLOCK_BASE;
-use steps::BLOCK_WORDS;
-use steps::MOST_BLOCKS;
-use steps::STATE_BASE;
-use steps::STATE_WORDS;
-
-// The header's words.
-const REGS_WORD: usize = 0;
-
-const SLOTS_WORD: usize = 1;
-
-const BLOCKS_WORD: usize = 3;
-
-const ENTRY_WORD: usize = 4;
-
-// Behind the states a mark for each block: 0 where it is unvisited.
-pub const MARK_BASE: usize = ALL_WORDS;
-
-pub const RUN_WORDS: usize = MARK_BASE + MOST_BLOCKS;
-
-// Room for every visit that the old run can make.
-pub const QUEUE_SIZE: usize = 1 + MOST_BLOCKS * (4 * (32 + 32));
 
 // The blocks that wait: `count` bytes of the queue from `head` on, round its end.
 pub struct Ring {
@@ -189,7 +180,7 @@ fn through(rule: Rule, words: &[u16], b: usize) -> State
     let s = cells::load(words, STATE_BASE + b * STATE_WORDS, regs, slots);
     let at = BLOCK_BASE + b * BLOCK_WORDS;
     let first = words[at] as usize;
-    let count = words[at + 1] as usize;
+    let count = words[at + STEP_TOTAL_WORD] as usize;
     steps::effects(words, rule, s, regs, slots, first, count)
 }
 
@@ -209,10 +200,10 @@ fn visit(
     let mut waiting = take(ring);
     let result = through(rule, words, b);
     let at = BLOCK_BASE + b * BLOCK_WORDS;
-    let total = words[at + 2] as usize;
+    let total = words[at + SUCC_TOTAL_WORD] as usize;
     let mut i = 0;
     while i < total {
-        let s = words[at + 3 + i] as usize;
+        let s = words[at + SUCCS_FROM + i] as usize;
         let next = push(table, rule, words, queue, waiting, s, result);
         waiting = next;
         i += 1;

@@ -17,9 +17,9 @@ use Rattle.paper.specs.Limits.{max-inst}
 use Rattle.paper.specs.Refusals.{Record, step-record, any, beyond-limit, out-of-order, real-elsewhere, types-differ, step-beyond}
 use Rattle.records.specs.Records.{lowest, verdict, Told}
 use Rattle.lists.specs.Bits.{set-bits}
-use Rattle.steps.specs.Layout.{operand-base, operand-words, defs-from, all-words}
+use Rattle.layout.specs.Layout.{regs-word, slots-word, steps-word, operand-base, defs-from, operand-words, all-words}
 use Rattle.steps.specs.declared.Action.the-variants.{Spill, Reload, Move, Change, Operation, Safepoint}
-use Rattle.sheet.specs.Loaded.{regs-word, slots-word, steps-word, sheet-of}
+use Rattle.sheet.specs.Loaded.{sheet-of}
 use Rattle.sheet.specs.Reading.{Progress, Fits, counts-of}
 use Rattle.sheet.proofs.LawsProgress.{counts-within}
 

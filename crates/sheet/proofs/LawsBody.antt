@@ -1,27 +1,27 @@
 -- What `B` and a step store: behind the words that were read, so that they mean the same sheet with one block or one step more.
-use mathlib.Core.Path.{_≡_, refl, sym, ap, ap₂, _∙_}
+use mathlib.Core.Path.{_≡_, sym, ap, _∙_}
 use mathlib.Core.List.{List, [], _∷_, _++_}
-use Prim.Native.Nat.{ℕ, zero, suc, _+_, _-_, _*_, _≤_, _<_}
-use native.Mathlib.Nat.{zero-add, add-zero}
+use Prim.Native.Nat.{ℕ, _+_, _*_, _≤_, _<_}
 use native.Mathlib.Omega.{arith}
 use lib.Dec.{leb}
 use lib.ListN.{length, getD, set, take, length-set}
 use lib.Seq.{getD-set-same, getD-set-other, ext-getD, getD-take, length-take-le}
 use Rattle.lists.specs.Over.{over, length-over, getD-over-in, getD-over-below, getD-over-above}
-use Rattle.lists.specs.Region.{region, length-region, getD-region, same-region}
+use Rattle.lists.specs.Region.{region, length-region, getD-region}
 use Rattle.lists.specs.Kept.{Kept}
 use Rattle.lists.specs.Split.{by-order}
-use Rattle.paper.specs.Sheet.{Step, Block, Sheet, reference-typed}
-use Rattle.paper.specs.Limits.{max-steps, max-succs, max-blocks}
+use Rattle.paper.specs.Sheet.{Block, Sheet}
+use Rattle.paper.specs.Limits.{max-blocks, max-succs, max-steps}
 use Rattle.paper.specs.Refusals.{block-record, step-record, add-record, add-step, step-count, ascending}
+use Rattle.layout.specs.Layout.{regs-word, slots-word, vregs-word, blocks-word, entry-word, opened-word, steps-word, least-word, begun-word, typed-base, typed-words, block-base, block-words, succ-base, step-base, step-words, operand-base, all-words}
 use Rattle.records.specs.Records.{BlockWithin}
-use Rattle.steps.specs.Layout.{typed-base, typed-words, block-base, block-words, step-base, step-words, operand-base, operand-words, most-steps, all-words}
 use Rattle.steps.specs.Actions.{step-of, action-at, steps-at}
 use Rattle.steps.specs.declared.Action.{Action}
-use Rattle.sheet.specs.Loaded.{regs-word, slots-word, vregs-word, blocks-word, entry-word, opened-word, steps-word, least-word, begun-word, first-step, step-total, succ-total, succ-base, block-at, blocks-at, marked-from, sheet-of, so-far, BlockBounds, StepBounds, Bounds}
+use Rattle.sheet.specs.Loaded.{first-step, step-total, succ-total, block-at, blocks-at, marked-from, sheet-of, BlockBounds, StepBounds, Bounds}
 use Rattle.sheet.specs.Reading.{Begun, Fits, Stored}
-use Rattle.sheet.proofs.LawsSteps.{SameOperands, SameSteps, packs-at, same-action, same-step, same-within, same-honest, room-within, steps-more, length-steps}
-use Rattle.sheet.proofs.LawsBlocks.{SameHead, SameLinks, same-typed, same-references, kept-steps, kept-step-bounds, same-first, same-succs, kept-links, kept-block, kept-block-bounds, kept-blocks, length-blocks, blocks-more, add-step-last, step-count-more}
+use Rattle.steps.specs.Laws.{room-within}
+use Rattle.steps.specs.Same.{SameOperands, SameSteps, same-action, same-step, same-within, same-honest, steps-more, length-steps}
+use Rattle.sheet.specs.Blocks.{SameHead, SameLinks, same-typed, same-references, kept-steps, kept-step-bounds, same-first, same-succs, kept-links, kept-block-bounds, kept-blocks, blocks-more, add-step-last, step-count-more}
 
 -- a sheet that stands in the words but for its body
 unfoldable pub with-body : List ℕ → List Block → Sheet

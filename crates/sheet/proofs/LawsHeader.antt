@@ -14,9 +14,9 @@ use Rattle.lists.specs.Split.{by-order}
 use Rattle.paper.specs.Sheet.{Sheet}
 use Rattle.paper.specs.Limits.{max-regs, max-slots, max-vregs, max-blocks}
 use Rattle.paper.specs.Refusals.{function-record, typed-record, add-record, ascending, step-count}
+use Rattle.layout.specs.Layout.{vregs-word, opened-word, steps-word, least-word, begun-word, typed-base, typed-words, block-base, all-words}
 use Rattle.records.specs.Records.{FunctionWithin}
-use Rattle.steps.specs.Layout.{typed-base, typed-words, block-base, all-words}
-use Rattle.sheet.specs.Loaded.{least-word, opened-word, vregs-word, steps-word, begun-word, blocks-at, marked-from, sheet-of, Bounds}
+use Rattle.sheet.specs.Loaded.{blocks-at, marked-from, sheet-of, Bounds}
 use Rattle.sheet.specs.Reading.{Blank, Begun, Stored}
 use Rattle.sheet.proofs.LawsTyped.{marks-more, ascending-more, ascending-one}
 

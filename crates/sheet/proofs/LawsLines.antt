@@ -11,8 +11,9 @@ use Rattle.paper.specs.Text.{Bytes}
 use Rattle.paper.specs.Sheet.{Sheet, Step}
 use Rattle.paper.specs.Limits.{max-sheet, max-steps}
 use Rattle.paper.specs.Refusals.{Record, function-record, typed-record, block-record, step-record, function-of, typed-of, block-of, out-of-place, step-too-many}
+use Rattle.layout.specs.Layout.{blocks-word, opened-word, steps-word, begun-word}
 use Rattle.records.specs.Records.{Told}
-use Rattle.sheet.specs.Loaded.{blocks-word, opened-word, steps-word, begun-word, sheet-of}
+use Rattle.sheet.specs.Loaded.{sheet-of}
 use Rattle.sheet.specs.Reading.{Blank, Progress, lowest-of, Alike, Stored, LineRead}
 use Rattle.sheet.specs.Reading as reading
 use Rattle.sheet.specs.declared.Lined.the-variants as lined

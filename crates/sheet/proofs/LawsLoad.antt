@@ -15,17 +15,17 @@ use Rattle.paper.specs.Text.{Bytes, lines, fields}
 use Rattle.paper.specs.Sheet.{Sheet}
 use Rattle.paper.specs.Refusals.{Reading, loaded, refused, good, bad, record-of, read-record, read-line, read-end, carry-on, read-lines, no-text, read}
 use Rattle.paper.specs.Refusals as paper
+use Rattle.layout.specs.Layout.{blocks-word, opened-word, begun-word, block-base, all-words}
 use Rattle.fields.specs.Fields.{line-at, line-end}
 use Rattle.fields.specs.Cursor.{lines-at, lines-past}
-use Rattle.steps.specs.Layout.{block-base, all-words}
-use Rattle.sheet.specs.Loaded.{blocks-word, opened-word, begun-word, blocks-at, sheet-of, so-far, Loaded}
+use Rattle.sheet.specs.Loaded.{blocks-at, sheet-of, so-far, Loaded}
 use Rattle.sheet.specs.Reading.{Blank, Progress, lined-of, GoodLine, LineRead, loading-of, Load}
 use Rattle.sheet.specs.Reading as reading
 use Rattle.sheet.specs.declared.Lined as Lined
 use Rattle.sheet.specs.declared.Lined.the-variants as lined
 use Rattle.sheet.specs.declared.Loading as Loading
 use Rattle.sheet.specs.declared.Loading.the-variants as loading
-use Rattle.sheet.proofs.LawsBlocks.{length-blocks}
+use Rattle.sheet.specs.Blocks.{length-blocks}
 use Rattle.sheet.proofs.LawsProgress.{so-far-blank, so-far-begun, begun-of}
 
 -- what is still to be read, from the line at `at` on, gives what the sheet gives

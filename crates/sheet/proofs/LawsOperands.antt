@@ -18,16 +18,16 @@ use Rattle.paper.specs.Text.{Bytes}
 use Rattle.paper.specs.Sheet.{Operand, Sheet, operation, reference-typed}
 use Rattle.paper.specs.Refusals.{Record, step-record}
 use Rattle.paper.specs.Limits.{max-steps, max-operands}
+use Rattle.layout.specs.Layout.{regs-word, opened-word, steps-word, block-base, block-words, step-base, operand-base, defs-from, operand-words, all-words}
 use Rattle.records.specs.Records.{GroupWithin}
-use Rattle.steps.specs.Layout.{block-base, block-words, step-base, operand-base, operand-words, defs-from, all-words}
 use Rattle.steps.specs.Actions.{operand-of, operands, step-of}
 use Rattle.steps.specs.declared.Action.the-variants.{Operation}
-use Rattle.sheet.specs.Loaded.{regs-word, opened-word, steps-word, step-total, blocks-at, sheet-of, so-far}
+use Rattle.sheet.specs.Loaded.{step-total, blocks-at, sheet-of, so-far}
 use Rattle.sheet.specs.Reading.{Blank, Begun, Progress, Fits, LineRead}
 use Rattle.sheet.specs.Reading as reading
 use Rattle.sheet.specs.declared.Lined as Lined
-use Rattle.sheet.proofs.LawsSteps.{SameSteps}
-use Rattle.sheet.proofs.LawsBlocks.{SameHead, SameLinks, kept-step-bounds, kept-block-bounds, kept-blocks, same-first}
+use Rattle.steps.specs.Same.{SameSteps}
+use Rattle.sheet.specs.Blocks.{SameHead, SameLinks, kept-step-bounds, kept-block-bounds, kept-blocks, same-first}
 use Rattle.sheet.proofs.LawsBody.{with-body, bounds-after, least-after, begun-after, meaning-after}
 use Rattle.sheet.proofs.LawsProgress.{sheet-blank, so-far-blank, so-far-begun}
 

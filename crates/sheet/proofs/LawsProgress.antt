@@ -13,15 +13,15 @@ use Rattle.lists.specs.Split.{by-test}
 use Rattle.paper.specs.Sheet.{Sheet, Step}
 use Rattle.paper.specs.Limits.{max-regs, max-slots, max-vregs, max-blocks, max-steps}
 use Rattle.paper.specs.Refusals.{Record, function-record, typed-record, block-record, step-record, empty, out-of-place, step-too-many, step-count, blank, so-far-of, ascending}
+use Rattle.layout.specs.Layout.{regs-word, slots-word, vregs-word, blocks-word, opened-word, steps-word, least-word, begun-word, typed-base, typed-words, block-base, all-words}
 use Rattle.records.specs.Records.{Counted, CountsWithin, TypedBy, Least}
 use Rattle.records.specs.declared.Counts.{Counts}
-use Rattle.steps.specs.Layout.{typed-base, typed-words, block-base, all-words}
-use Rattle.sheet.specs.Loaded.{regs-word, slots-word, vregs-word, blocks-word, opened-word, steps-word, least-word, begun-word, blocks-at, marked-from, sheet-of, so-far}
+use Rattle.sheet.specs.Loaded.{blocks-at, marked-from, sheet-of, so-far}
 use Rattle.sheet.specs.Reading.{Blank, Begun, Progress, counts-of}
 use Rattle.sheet.specs.Reading as reading
 use Rattle.sheet.proofs.LawsTyped.{listed-marked, ascending-one}
 use Rattle.sheet.proofs.LawsHeader.{none-typed}
-use Rattle.sheet.proofs.LawsBlocks.{length-blocks}
+use Rattle.sheet.specs.Blocks.{length-blocks}
 
 -- ---- the sheet so far
 

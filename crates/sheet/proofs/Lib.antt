@@ -1,6 +1,4 @@
 pub mod LawsTyped
-pub mod LawsSteps
-pub mod LawsBlocks
 pub mod LawsText
 pub mod LawsHeader
 pub mod LawsBody

@@ -1,2 +1,4 @@
 pub mod Loaded
 pub mod Reading
+pub mod Blocks
+pub mod Allocated

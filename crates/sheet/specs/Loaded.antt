@@ -1,5 +1,5 @@
 -- What loaded words mean: the sheet of the paper that stands in them, and the bounds that its numbers keep. The header has the
--- numbers of `F` and how far reading has come; then the typed names, the blocks, the steps and their operands (steps' Layout).
+-- numbers of `F` and how far reading has come; then the typed names, the blocks, the steps and their operands (layout's Layout).
 use mathlib.Core.Path.{_≡_}
 use mathlib.Core.Bool.{cond}
 use mathlib.Core.List.{List, [], _∷_}
@@ -11,51 +11,18 @@ use Rattle.lists.specs.Region.{region}
 use Rattle.paper.specs.Sheet.{Block, Sheet, reference-typed}
 use Rattle.paper.specs.Refusals.{Reading, loaded, refused}
 use Rattle.paper.specs.Limits.{max-regs, max-slots, max-vregs, max-blocks, max-succs, max-steps}
-use Rattle.steps.specs.Layout.{typed-base, typed-words, block-base, block-words, all-words}
+use Rattle.layout.specs.Layout.{regs-word, slots-word, vregs-word, blocks-word, entry-word, opened-word, steps-word, begun-word, typed-base, typed-words, block-base, step-total-word, succ-total-word, block-words, succ-base, all-words}
 use Rattle.steps.specs.Actions.{action-at, steps-at, Ranged, Honest}
 
--- the header's words
-abbrev pub regs-word : ℕ
-regs-word = 0
-
-abbrev pub slots-word : ℕ
-slots-word = 1
-
-abbrev pub vregs-word : ℕ
-vregs-word = 2
-
-abbrev pub blocks-word : ℕ
-blocks-word = 3
-
-abbrev pub entry-word : ℕ
-entry-word = 4
-
--- how many `B` lines and how many steps have been read
-abbrev pub opened-word : ℕ
-opened-word = 5
-
-abbrev pub steps-word : ℕ
-steps-word = 6
-
--- the least number that the next `T` may have, and whether the `F` has been read
-abbrev pub least-word : ℕ
-least-word = 7
-
-abbrev pub begun-word : ℕ
-begun-word = 8
-
--- a block's words: its first step, how many steps, how many successors, and the successors
+-- a block's words: its first step, how many steps, and how many successors
 abbrev pub first-step : List ℕ → ℕ → ℕ
 first-step words b = getD words (block-base + b * block-words) 0
 
 abbrev pub step-total : List ℕ → ℕ → ℕ
-step-total words b = getD words (block-base + b * block-words + 1) 0
+step-total words b = getD words (block-base + b * block-words + step-total-word) 0
 
 abbrev pub succ-total : List ℕ → ℕ → ℕ
-succ-total words b = getD words (block-base + b * block-words + 2) 0
-
-abbrev pub succ-base : ℕ → ℕ
-succ-base b = block-base + b * block-words + 3
+succ-total words b = getD words (block-base + b * block-words + succ-total-word) 0
 
 unfoldable pub block-at : List ℕ → ℕ → Block
 block-at words b = record { succs = region (succ-base b) (succ-total words b) words; steps = steps-at words (first-step words b) (step-total words b) }

@@ -12,13 +12,13 @@ use Rattle.paper.specs.Sheet.{Sheet, reference-typed}
 use Rattle.paper.specs.Limits.{max-sheet}
 use Rattle.paper.specs.Refusals.{Record, step-record, Reading, loaded, refused, good, bad, out-of-place, step-too-many, step-count, ascending, add-record, read-record, read}
 use Rattle.paper.specs.Refusals as paper
+use Rattle.layout.specs.Layout.{regs-word, slots-word, vregs-word, blocks-word, opened-word, steps-word, least-word, begun-word, typed-base, typed-words, block-base, all-words}
 use Rattle.fields.specs.Fields.{line-end}
-use Rattle.steps.specs.Layout.{typed-base, typed-words, block-base, all-words}
 use Rattle.steps.specs.Actions.{step-of, Ranged, Honest, Packs}
 use Rattle.steps.specs.declared.Action.{Action}
 use Rattle.records.specs.Records.{Told}
 use Rattle.records.specs.declared.Counts.{Counts}
-use Rattle.sheet.specs.Loaded.{regs-word, slots-word, vregs-word, blocks-word, opened-word, steps-word, least-word, begun-word, first-step, step-total, blocks-at, marked-from, sheet-of, so-far, Bounds, Loaded}
+use Rattle.sheet.specs.Loaded.{first-step, step-total, blocks-at, marked-from, sheet-of, so-far, Bounds, Loaded}
 use Rattle.sheet.specs.declared.Lined as Lined
 use Rattle.sheet.specs.declared.Lined.the-variants as lined
 use Rattle.sheet.specs.declared.Loading as Loading

@@ -11,42 +11,34 @@ ghost use Rattle.paper.specs.Text.{line-feed, fields};
 ghost use Rattle.paper.specs.Sheet.{spill, reload, move};
 ghost use Rattle.paper.specs.Limits.{max-steps, max-succs, words-size};
 ghost use Rattle.paper.specs.Refusals.{function-record, typed-record, block-record, step-record, one-byte, function-of, typed-of, block-of, two-numbers-of, change-of, operation-of, safepoint-of, record-of, no-text};
+ghost use Rattle.layout.specs.Layout.{vregs-word, blocks-word, opened-word, steps-word, least-word, block-base, operand-words, all-words};
 ghost use Rattle.fields.specs.Fields.{field-at, line-at, fields-behind};
 ghost use Rattle.records.specs.Records.{Behind, FunctionWithin, BlockWithin};
-ghost use Rattle.steps.specs.Layout.{block-base, operand-words, all-words};
 ghost use Rattle.steps.specs.Actions.{step-of};
-ghost use Rattle.sheet.specs.Loaded.{vregs-word, blocks-word, opened-word, steps-word, least-word, sheet-of};
+ghost use Rattle.sheet.specs.Loaded.{sheet-of};
 ghost use Rattle.sheet.specs.Reading.{SheetText, Blank, Begun, Progress, counts-of, Fits, lowest-of, Stored, LineRead, StepLined, number-of-line, Load};
+use layout::BEGUN_WORD;
+use layout::BLOCK_BASE;
+use layout::BLOCK_WORDS;
+use layout::BLOCKS_WORD;
+use layout::ENTRY_WORD;
+use layout::LEAST_WORD;
+use layout::MAX_SHEET;
+use layout::MAX_STEPS;
+use layout::MAX_SUCCS;
+use layout::OPENED_WORD;
+use layout::OPERAND_BASE;
+use layout::OPERAND_WORDS;
+use layout::REGS_WORD;
+use layout::SLOTS_WORD;
+use layout::STEP_TOTAL_WORD;
+use layout::STEPS_WORD;
+use layout::SUCC_TOTAL_WORD;
+use layout::SUCCS_FROM;
+use layout::TYPED_BASE;
+use layout::VREGS_WORD;
 use records::Counts;
 use steps::Action;
-use steps::BLOCK_BASE;
-use steps::BLOCK_WORDS;
-use steps::MOST_STEPS;
-use steps::OPERAND_BASE;
-use steps::OPERAND_WORDS;
-use steps::TYPED_BASE;
-
-// The header's words: the numbers of `F`; how many blocks and steps have been read; the least number that the next `T` may have;
-// and whether the `F` has been read.
-const REGS: usize = 0;
-
-const SLOTS: usize = 1;
-
-const VREGS: usize = 2;
-
-const BLOCKS: usize = 3;
-
-const ENTRY: usize = 4;
-
-const OPENED: usize = 5;
-
-const STEPS: usize = 6;
-
-const LEAST: usize = 7;
-
-const BEGUN: usize = 8;
-
-const MAX_SHEET: usize = 65536;
 
 // What loading a sheet comes to: its words stand, or it is refused, by a number and at a line.
 pub enum Loading {
@@ -89,10 +81,10 @@ fn counts(words: &[u16]) -> Counts
     ensures { λ r. ⌜ r ≡ counts-of (now (words .entry)) ⌝ }
 {
     Counts {
-        regs: words[REGS] as u32,
-        slots: words[SLOTS] as u32,
-        vregs: words[VREGS] as u32,
-        blocks: words[BLOCKS] as u32,
+        regs: words[REGS_WORD] as u32,
+        slots: words[SLOTS_WORD] as u32,
+        vregs: words[VREGS_WORD] as u32,
+        blocks: words[BLOCKS_WORD] as u32,
     }
 }
 
@@ -119,15 +111,15 @@ fn store_function(words: &mut [u16], regs: u16, slots: u16, vregs: u16, blocks: 
     requires { ⌜ Blank (now words) × FunctionWithin regs slots vregs blocks entry ⌝ }
     ensures { λ _. ⌜ Stored (now (words .entry)) (now (words .exit)) (function-record regs slots vregs blocks entry) ⌝ }
 {
-    words[REGS] = regs;
-    words[SLOTS] = slots;
-    words[VREGS] = vregs;
-    words[BLOCKS] = blocks;
-    words[ENTRY] = entry;
-    words[OPENED] = 0;
-    words[STEPS] = 0;
-    words[LEAST] = 0;
-    words[BEGUN] = 1;
+    words[REGS_WORD] = regs;
+    words[SLOTS_WORD] = slots;
+    words[VREGS_WORD] = vregs;
+    words[BLOCKS_WORD] = blocks;
+    words[ENTRY_WORD] = entry;
+    words[OPENED_WORD] = 0;
+    words[STEPS_WORD] = 0;
+    words[LEAST_WORD] = 0;
+    words[BEGUN_WORD] = 1;
 }
 
 fn read_function(sheet: &[u8], at: usize, words: &mut [u16]) -> Lined
@@ -135,7 +127,7 @@ fn read_function(sheet: &[u8], at: usize, words: &mut [u16]) -> Lined
     ensures { λ r. ⌜ LineRead (function-of (fields-behind (now (sheet .entry)) at)) (now (sheet .entry)) at (now (words .entry)) (now (words .exit)) r ⌝ }
 {
     let line = records::function_line(sheet, at);
-    let number = lowest(line.number, words[BEGUN] != 0, false);
+    let number = lowest(line.number, words[BEGUN_WORD] != 0, false);
     if number != 0 {
         return Lined::Bad(number);
     }
@@ -156,17 +148,17 @@ fn add_typed(words: &mut [u16], n: usize)
     ensures { λ _. ⌜ Stored (now (words .entry)) (now (words .exit)) (typed-record n) ⌝ }
 {
     words[TYPED_BASE + n] = 1;
-    words[LEAST] = n as u16 + 1;
+    words[LEAST_WORD] = n as u16 + 1;
 }
 
 fn read_typed(sheet: &[u8], at: usize, words: &mut [u16]) -> Lined
     requires { ⌜ Behind (now sheet) at × Progress (now words) ⌝ }
     ensures { λ r. ⌜ LineRead (typed-of (fields-behind (now (sheet .entry)) at)) (now (sheet .entry)) at (now (words .entry)) (now (words .exit)) r ⌝ }
 {
-    let line = records::typed_line(sheet, at, counts(words), words[LEAST] as u32);
+    let line = records::typed_line(sheet, at, counts(words), words[LEAST_WORD] as u32);
     let number = lowest(
         line.number,
-        (words[BEGUN] == 0) | (words[OPENED] != 0),
+        (words[BEGUN_WORD] == 0) | (words[OPENED_WORD] != 0),
         false,
     );
     if number != 0 {
@@ -176,7 +168,7 @@ fn read_typed(sheet: &[u8], at: usize, words: &mut [u16]) -> Lined
     Lined::Good(line.next + 1)
 }
 
-fn store_succs(words: &mut [u16], at: usize, succs: [u32; 8], count: usize)
+fn store_succs(words: &mut [u16], at: usize, succs: [u32; MAX_SUCCS], count: usize)
     requires { ⌜ (at + count ≤ length (now words)) × (count ≤ max-succs) × ((k : ℕ) → k < count → getD succs k 0 < 65536) ⌝ }
     ensures { λ _. ⌜ now (words .exit) ≡ over at count (λ k x. getD succs k 0) (now (words .entry)) ⌝ }
 {
@@ -188,17 +180,17 @@ fn store_succs(words: &mut [u16], at: usize, succs: [u32; 8], count: usize)
 }
 
 // `B`: the next block, with no step yet.
-fn add_block(words: &mut [u16], succs: [u32; 8], count: usize)
+fn add_block(words: &mut [u16], succs: [u32; MAX_SUCCS], count: usize)
     requires { ⌜ Begun (now words) × (getD (now words) opened-word 0 < getD (now words) blocks-word 0) × BlockWithin (getD (now words) blocks-word 0) count succs ⌝ }
     ensures { λ _. ⌜ Stored (now (words .entry)) (now (words .exit)) (block-record (take count succs)) ⌝ }
 {
-    let b = words[OPENED];
+    let b = words[OPENED_WORD];
     let at = BLOCK_BASE + b as usize * BLOCK_WORDS;
-    words[at] = words[STEPS];
-    words[at + 1] = 0;
-    words[at + 2] = count as u16;
-    store_succs(words, at + 3, succs, count);
-    words[OPENED] = b + 1;
+    words[at] = words[STEPS_WORD];
+    words[at + STEP_TOTAL_WORD] = 0;
+    words[at + SUCC_TOTAL_WORD] = count as u16;
+    store_succs(words, at + SUCCS_FROM, succs, count);
+    words[OPENED_WORD] = b + 1;
 }
 
 fn read_block(sheet: &[u8], at: usize, words: &mut [u16]) -> Lined
@@ -206,7 +198,7 @@ fn read_block(sheet: &[u8], at: usize, words: &mut [u16]) -> Lined
     ensures { λ r. ⌜ LineRead (block-of (fields-behind (now (sheet .entry)) at)) (now (sheet .entry)) at (now (words .entry)) (now (words .exit)) r ⌝ }
 {
     let line = records::block_line(sheet, at, counts(words));
-    let number = lowest(line.number, words[BLOCKS] <= words[OPENED], false);
+    let number = lowest(line.number, words[BLOCKS_WORD] <= words[OPENED_WORD], false);
     if number != 0 {
         return Lined::Bad(number);
     }
@@ -220,11 +212,11 @@ fn add_step(words: &mut [u16], action: Action)
     requires { ⌜ Begun (now words) × (0 < getD (now words) opened-word 0) × (getD (now words) steps-word 0 < max-steps) × Fits (now words) action ⌝ }
     ensures { λ _. ⌜ Stored (now (words .entry)) (now (words .exit)) (step-record (step-of (now (words .entry)) action)) ⌝ }
 {
-    let k = words[STEPS];
-    let total = BLOCK_BASE + (words[OPENED] as usize - 1) * BLOCK_WORDS + 1;
+    let k = words[STEPS_WORD];
+    let total = BLOCK_BASE + (words[OPENED_WORD] as usize - 1) * BLOCK_WORDS + STEP_TOTAL_WORD;
     steps::put_action(words, k as usize, action);
     words[total] = words[total] + 1;
-    words[STEPS] = k + 1;
+    words[STEPS_WORD] = k + 1;
 }
 
 // A line that says a step, by its own number, the place of its line feed and the action.
@@ -234,8 +226,8 @@ fn step_line(words: &mut [u16], number: u32, next: usize, action: Action) -> Lin
 {
     let lowest = lowest(
         number,
-        words[OPENED] == 0,
-        MOST_STEPS <= words[STEPS] as usize,
+        words[OPENED_WORD] == 0,
+        MAX_STEPS <= words[STEPS_WORD] as usize,
     );
     if lowest != 0 {
         return Lined::Bad(lowest);
@@ -249,7 +241,7 @@ fn read_spill(sheet: &[u8], at: usize, words: &mut [u16]) -> Lined
     requires { ⌜ Behind (now sheet) at × Progress (now words) ⌝ }
     ensures { λ r. ⌜ LineRead (two-numbers-of spill (fields-behind (now (sheet .entry)) at)) (now (sheet .entry)) at (now (words .entry)) (now (words .exit)) r ⌝ }
 {
-    let line = records::pair_line(sheet, at, words[SLOTS] as u32, words[REGS] as u32);
+    let line = records::pair_line(sheet, at, words[SLOTS_WORD] as u32, words[REGS_WORD] as u32);
     let slot = line.a as usize;
     let reg = line.b as usize;
     step_line(words, line.number, line.next, Action::Spill { slot, reg })
@@ -260,7 +252,7 @@ fn read_reload(sheet: &[u8], at: usize, words: &mut [u16]) -> Lined
     requires { ⌜ Behind (now sheet) at × Progress (now words) ⌝ }
     ensures { λ r. ⌜ LineRead (two-numbers-of reload (fields-behind (now (sheet .entry)) at)) (now (sheet .entry)) at (now (words .entry)) (now (words .exit)) r ⌝ }
 {
-    let line = records::pair_line(sheet, at, words[REGS] as u32, words[SLOTS] as u32);
+    let line = records::pair_line(sheet, at, words[REGS_WORD] as u32, words[SLOTS_WORD] as u32);
     let reg = line.a as usize;
     let slot = line.b as usize;
     step_line(words, line.number, line.next, Action::Reload { reg, slot })
@@ -271,7 +263,7 @@ fn read_move(sheet: &[u8], at: usize, words: &mut [u16]) -> Lined
     requires { ⌜ Behind (now sheet) at × Progress (now words) ⌝ }
     ensures { λ r. ⌜ LineRead (two-numbers-of move (fields-behind (now (sheet .entry)) at)) (now (sheet .entry)) at (now (words .entry)) (now (words .exit)) r ⌝ }
 {
-    let line = records::pair_line(sheet, at, words[REGS] as u32, words[REGS] as u32);
+    let line = records::pair_line(sheet, at, words[REGS_WORD] as u32, words[REGS_WORD] as u32);
     let into = line.a as usize;
     let from = line.b as usize;
     step_line(words, line.number, line.next, Action::Move { into, from })
@@ -301,7 +293,7 @@ fn read_change(sheet: &[u8], at: usize, words: &mut [u16]) -> Lined
 }
 
 // The operands of the next step. Nothing reads them before the step stands.
-fn store_operands(words: &mut [u16], at: usize, operands: [u16; 16])
+fn store_operands(words: &mut [u16], at: usize, operands: [u16; OPERAND_WORDS])
     requires { ⌜ at + operand-words ≤ length (now words) ⌝ }
     ensures { λ _. ⌜ now (words .exit) ≡ over at operand-words (λ k x. getD operands k 0) (now (words .entry)) ⌝ }
 {
@@ -318,7 +310,7 @@ fn read_operation(sheet: &[u8], at: usize, words: &mut [u16]) -> Lined
     ensures { λ r. ⌜ LineRead (operation-of (fields-behind (now (sheet .entry)) at)) (now (sheet .entry)) at (now (words .entry)) (now (words .exit)) r ⌝ }
 {
     let line = records::operation_line(sheet, at, counts(words), &words[TYPED_BASE..BLOCK_BASE]);
-    let place = OPERAND_BASE + words[STEPS] as usize * OPERAND_WORDS;
+    let place = OPERAND_BASE + words[STEPS_WORD] as usize * OPERAND_WORDS;
     let operands = line.operands;
     store_operands(words, place, operands);
     let inst = (line.inst % 65536) as u16;
@@ -402,7 +394,7 @@ pub fn load(sheet: &[u8], words: &mut [u16]) -> Loading
         at = next;
         line += 1;
     }
-    if (words[BEGUN] == 0) | (words[OPENED] < words[BLOCKS]) {
+    if (words[BEGUN_WORD] == 0) | (words[OPENED_WORD] < words[BLOCKS_WORD]) {
         return Loading::Refused(4, line);
     }
     Loading::Loaded

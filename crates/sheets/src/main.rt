@@ -1,6 +1,9 @@
 // Runs a stored list of sheets on the reader: standard input is frames, each sheet followed by `X number line` where it is refused
 // and `ok` where it is read. Each is read anew and compared; the last line says how many differ.
 use frames::Frame;
+use layout::QUEUE_SIZE;
+use layout::REPORT_SIZE;
+use layout::WORDS_SIZE;
 use paper::Rule;
 use tally::Outcome;
 use tally::Tally;
@@ -32,8 +35,8 @@ fn one(
     sheet: &mut [u8],
     stored: &mut [u8],
     text: &mut [u8],
-    words: &mut [u16; 32768],
-    queue: &mut [u8; 16385],
+    words: &mut [u16; WORDS_SIZE],
+    queue: &mut [u8; QUEUE_SIZE],
 ) -> Outcome {
     let frame = frames::read(sheet);
     let Frame::Read(length) = frame else {
@@ -50,9 +53,9 @@ fn one(
 fn main() {
     let mut sheet = [0u8; 70000];
     let mut stored = [0u8; 70000];
-    let mut text = [0u8; 32784];
-    let mut words = [0u16; 32768];
-    let mut queue = [0u8; 16385];
+    let mut text = [0u8; REPORT_SIZE];
+    let mut words = [0u16; WORDS_SIZE];
+    let mut queue = [0u8; QUEUE_SIZE];
     let mut tally = Tally {
         same: 0,
         different: 0,

@@ -1,6 +1,15 @@
 // The entry states of a sheet as text, for comparison: for each block `D`, the block, whether it is visited, and its cells.
 ghost use Prim.Native.Nat.{_≤_};
 ghost use lib.ListN.{length};
+use layout::BLOCKS_WORD;
+use layout::MARK_BASE;
+use layout::QUEUE_SIZE;
+use layout::REGS_WORD;
+use layout::ROW_WORDS;
+use layout::SLOTS_WORD;
+use layout::STATE_BASE;
+use layout::STATE_WORDS;
+use layout::WORDS_SIZE;
 use paper::Rule;
 use report::Missing;
 use sheet::Loading;
@@ -95,7 +104,7 @@ fn visited(words: &[u16], rule: Rule, b: usize) -> u8
 {
     match rule {
         Rule::Old => b'-',
-        Rule::House => (48 + word(words, runs::MARK_BASE + b) % 2) as u8,
+        Rule::House => (48 + word(words, MARK_BASE + b) % 2) as u8,
     }
 }
 
@@ -117,9 +126,15 @@ fn put_block(out: &mut [u8], at: usize, words: &[u16], rule: Rule, b: usize) -> 
     ensures { λ r. ⌜ r ≤ length (now (out .exit)) ⌝ }
 {
     let head = put_head(out, at, b, visited(words, rule, b));
-    let from = steps::STATE_BASE + b * steps::STATE_WORDS;
-    let regs = put_row(out, head, words, from, word(words, 0) as usize);
-    let slots = put_row(out, regs, words, from + 32, word(words, 1) as usize);
+    let from = STATE_BASE + b * STATE_WORDS;
+    let regs = put_row(out, head, words, from, word(words, REGS_WORD) as usize);
+    let slots = put_row(
+        out,
+        regs,
+        words,
+        from + ROW_WORDS,
+        word(words, SLOTS_WORD) as usize,
+    );
     put(out, slots, b'\n')
 }
 
@@ -141,8 +156,8 @@ pub fn entry_states(
     rule: Rule,
     sheet: &[u8],
     out: &mut [u8],
-    words: &mut [u16; 32768],
-    queue: &mut [u8; 16385],
+    words: &mut [u16; WORDS_SIZE],
+    queue: &mut [u8; QUEUE_SIZE],
 ) -> usize
     ensures { λ r. ⌜ r ≤ length (now (out .exit)) ⌝ }
 {
@@ -155,6 +170,6 @@ pub fn entry_states(
         return 0;
     };
     runs::analyze(rule, words, queue);
-    let blocks = word(words, 3) % 256;
+    let blocks = word(words, BLOCKS_WORD) % 256;
     put_blocks(out, words, rule, blocks as usize)
 }

@@ -17,10 +17,10 @@ use Rattle.paper.specs.Steps as paper
 use Rattle.paper.specs.Steps.{State, get, put, copy, cell-at, store-at, location-of, everywhere, placed, safepoint-row, old-define, house-define, old-effect, house-effect, effect, effects}
 use Rattle.paper.specs.declared.Rule.{Rule}
 use Rattle.paper.specs.declared.Rule.the-variants.{Old, House}
+use Rattle.layout.specs.Layout.{defs-from}
 use Rattle.cells.specs.Packed.{name-of-word, marked, cell-of}
 use Rattle.cells.specs.States.{state-of}
 use Rattle.cells.specs.Laws.{made, state-cell, state-store}
-use Rattle.steps.specs.Layout.{defs-from}
 use Rattle.steps.specs.Actions.{no-register, register-of, operand-of, operands, step-of, action-at, steps-at}
 use Rattle.steps.specs.Defs.{cleared-of, define-word, define-words}
 

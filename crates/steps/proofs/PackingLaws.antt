@@ -11,9 +11,10 @@ use Rattle.lists.specs.Over.{over, getD-over-in}
 use Rattle.lists.specs.Regions.{region-cons, region-none}
 use Rattle.lists.specs.Kept.{Kept, kept-over}
 use Rattle.paper.specs.Report.{unallocated, first-list}
+use Rattle.paper.specs.Limits.{max-steps}
+use Rattle.layout.specs.Layout.{step-base, step-words, all-words}
 use Rattle.cells.specs.Packed.{name-of-word, marked}
 use Rattle.cells.specs.Laws.{same-name}
-use Rattle.steps.specs.Layout.{most-steps, step-base, step-words, all-words}
 use Rattle.steps.specs.Actions.{no-register, register-of, operand-of, operands, action-of, action-at, packed, Packs}
 use Rattle.steps.specs.Faults.{some-in}
 use Rattle.steps.specs.declared.Action.{Action}
@@ -77,7 +78,7 @@ apart k (Safepoint inst mask) h =
     let e : mask % 65536 + mask / 65536 * 65536 ≡ mask = omega arith in
     head-apart k inst (mask % 65536) (mask / 65536) 5 0 0 (omega arith) (omega arith) (omega arith) ∙ rw e
 
-pub written : (l l₁ p : List ℕ) (k : ℕ) (action : Action) → k < most-steps → all-words ≤ length l → Packs k action → p ≡ packed action
+pub written : (l l₁ p : List ℕ) (k : ℕ) (action : Action) → k < max-steps → all-words ≤ length l → Packs k action → p ≡ packed action
     → l₁ ≡ over (step-base + k * step-words) 4 (λ i w. getD p i 0) l
     → (action-at l₁ k ≡ action) × Kept (step-base + k * step-words) step-words l l₁
 unfolding action-at

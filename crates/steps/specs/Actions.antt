@@ -14,8 +14,9 @@ use Rattle.lists.specs.Region.{region}
 use Rattle.lists.specs.Bits.{set-bits}
 use Rattle.paper.specs.Text.{Name}
 use Rattle.paper.specs.Sheet.{Operand, Step, spill, reload, move, change, operation, safepoint}
+use Rattle.paper.specs.Limits.{max-regs, max-slots, max-operands, max-steps}
+use Rattle.layout.specs.Layout.{step-base, step-words, operand-base, defs-from, operand-words, all-words}
 use Rattle.cells.specs.Packed.{name-of-word, marked}
-use Rattle.steps.specs.Layout.{most-steps, step-base, step-words, operand-base, operand-words, defs-from, all-words}
 use Rattle.steps.specs.declared.Action.{Action}
 use Rattle.steps.specs.declared.Action.the-variants.{Spill, Reload, Move, Change, Operation, Safepoint}
 
@@ -76,7 +77,7 @@ Within regs slots Register words (Reload r k) = (r < regs) × (k < slots)
 Within regs slots Register words (Move into from) = (into < regs) × (from < regs)
 Within regs slots Register words (Change inst k from to) = k < slots
 Within regs slots Register words (Operation inst at n m) =
-    (n ≤ 8) × (m ≤ 8) × (at + operand-words ≤ length words)
+    (n ≤ max-operands) × (m ≤ max-operands) × (at + operand-words ≤ length words)
     × ((i : ℕ) → i < n → Register (getD words (at + i) 0 / 1024))
     × ((i : ℕ) → i < m → Register (getD words (at + defs-from + i) 0 / 1024))
 Within regs slots Register words (Safepoint inst mask) = mask < 2 ^ slots
@@ -113,23 +114,14 @@ RoomFor (Spill k r) words = Unit {0}
 RoomFor (Reload r k) words = Unit {0}
 RoomFor (Move into from) words = Unit {0}
 RoomFor (Change inst k from to) words = Unit {0}
-RoomFor (Operation inst at n m) words = (n ≤ 8) × (m ≤ 8) × (at + operand-words ≤ length words)
+RoomFor (Operation inst at n m) words = (n ≤ max-operands) × (m ≤ max-operands) × (at + operand-words ≤ length words)
 RoomFor (Safepoint inst mask) words = Unit {0}
-
--- an operation's operands stand at b, at most eight of each
-abbrev pub OperandsIn : ℕ → Action → Type 0
-OperandsIn b (Spill k r) = Unit {0}
-OperandsIn b (Reload r k) = Unit {0}
-OperandsIn b (Move into from) = Unit {0}
-OperandsIn b (Change inst k from to) = Unit {0}
-OperandsIn b (Operation inst at n m) = (at ≡ b) × (n ≤ 8) × (m ≤ 8)
-OperandsIn b (Safepoint inst mask) = Unit {0}
 
 -- the steps of a block can be run
 pub record Runnable (regs slots : ℕ) (words : List ℕ) (first count : ℕ) : Type 0 where
-  pub regs-fit : regs ≤ 32
-  pub slots-fit : slots ≤ 32
-  pub steps-fit : first + count ≤ most-steps
+  pub regs-fit : regs ≤ max-regs
+  pub slots-fit : slots ≤ max-slots
+  pub steps-fit : first + count ≤ max-steps
   pub words-fit : all-words ≤ length words
   pub in-range : (k : ℕ) → first ≤ k → k < first + count → InRange regs slots words (action-at words k)
 

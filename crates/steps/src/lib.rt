@@ -12,49 +12,26 @@ ghost use Rattle.paper.specs.Text.{Name};
 ghost use Rattle.paper.specs.Sheet as sheet;
 ghost use Rattle.paper.specs.Steps as paper;
 ghost use Rattle.paper.specs.Report.{unallocated, missing-names, inst-of};
+ghost use Rattle.paper.specs.Limits.{max-regs, max-slots, max-steps};
+ghost use Rattle.layout.specs.Layout.{step-base, step-words, all-words};
 ghost use Rattle.cells.specs.Packed.{name-of-word, marked};
 ghost use Rattle.cells.specs.States.{state-of};
-ghost use Rattle.steps.specs.Layout.{most-steps, step-base, step-words, all-words};
 ghost use Rattle.steps.specs.Actions.{register-of, operand-of, operands, step-of, action-at, steps-at, InRange, Honest, packed, Packs, RoomFor, Runnable, HonestSteps};
 ghost use Rattle.steps.specs.Faults.{fault-of, some-in};
 ghost use Rattle.steps.specs.Checks.{is-error, use-error, change-error, slot-error, first-error, use-in, slot-in};
 ghost use Rattle.steps.specs.Defs.{define-word, define-words};
 use cells::State;
+use layout::DEFS_FROM;
+use layout::OPERAND_BASE;
+use layout::OPERAND_WORDS;
+use layout::STEP_BASE;
+use layout::STEP_WORDS;
 use paper::Rule;
 
-pub const MOST_BLOCKS: usize = 64;
-
-pub const MOST_STEPS: usize = 1024;
-
-pub const HEADER_WORDS: usize = 16;
-
-pub const TYPED_BASE: usize = HEADER_WORDS;
-
-pub const TYPED_WORDS: usize = 256;
-
-pub const BLOCK_BASE: usize = TYPED_BASE + TYPED_WORDS;
-
-pub const BLOCK_WORDS: usize = 12;
-
-pub const STEP_BASE: usize = BLOCK_BASE + MOST_BLOCKS * BLOCK_WORDS;
-
-pub const STEP_WORDS: usize = 4;
-
-pub const OPERAND_BASE: usize = STEP_BASE + MOST_STEPS * STEP_WORDS;
-
-pub const OPERAND_WORDS: usize = 16;
-
-pub const DEFS_FROM: usize = 8;
-
-pub const STATE_BASE: usize = OPERAND_BASE + MOST_STEPS * OPERAND_WORDS;
-
-pub const STATE_WORDS: usize = 64;
-
-pub const ALL_WORDS: usize = STATE_BASE + MOST_BLOCKS * STATE_WORDS;
-
+// The register of an operand that has no allocation.
 pub const NO_REGISTER: u16 = 63;
 
-// A step. An operation's uses stand in the lent words from `at` on, its defs from `at + 8` on.
+// A step. An operation's uses stand in the lent words from `at` on, its defs from `at + DEFS_FROM` on.
 pub enum Action {
     Spill {
         slot: usize,
@@ -135,7 +112,7 @@ fn mask_of(low: u16, high: u16) -> u32
 
 // The k-th step of the sheet.
 pub fn action_at(words: &[u16], k: usize) -> Action
-    requires { ⌜ (k < most-steps) × (all-words ≤ length (now words)) ⌝ }
+    requires { ⌜ (k < max-steps) × (all-words ≤ length (now words)) ⌝ }
     ensures { λ r. ⌜ r ≡ action-at (now (words .entry)) k ⌝ }
 {
     let at = STEP_BASE + k * STEP_WORDS;
@@ -208,7 +185,7 @@ fn packed(action: Action) -> [u16; 4]
 
 // The k-th step of the sheet is written.
 pub fn put_action(words: &mut [u16], k: usize, action: Action)
-    requires { ⌜ (k < most-steps) × (all-words ≤ length (now words)) × Packs k action ⌝ }
+    requires { ⌜ (k < max-steps) × (all-words ≤ length (now words)) × Packs k action ⌝ }
     ensures { λ r. ⌜ (action-at (now (words .exit)) k ≡ action) × Kept (step-base + k * step-words) step-words (now (words .entry)) (now (words .exit)) ⌝ }
 {
     let p = packed(action);
@@ -345,7 +322,7 @@ fn is_error(error: CheckerError) -> bool
 
 // The uses in order: the first that fails.
 fn check_uses(words: &[u16], at: usize, n: usize, row: &[u16; 32]) -> CheckerError
-    requires { ⌜ (at + n ≤ length (now words)) × ((i : ℕ) → i < n → getD (now words) (at + i) 0 / 1024 < 32) ⌝ }
+    requires { ⌜ (at + n ≤ length (now words)) × ((i : ℕ) → i < n → getD (now words) (at + i) 0 / 1024 < max-regs) ⌝ }
     ensures { λ r. ⌜ r ≡ first-error (use-in (now (row .entry))) (region at n (now (words .entry))) ⌝ }
 {
     let mut place = at;
@@ -418,7 +395,7 @@ pub fn check(words: &[u16], s: State, action: Action) -> CheckerError
 
 // A def: its register gets its name, which under the house rule stands nowhere else.
 fn define(rule: Rule, s: State, regs: usize, slots: usize, operand: u16) -> State
-    requires { ⌜ (regs ≤ 32) × (slots ≤ 32) × (operand / 1024 < regs) ⌝ }
+    requires { ⌜ (regs ≤ max-regs) × (slots ≤ max-slots) × (operand / 1024 < regs) ⌝ }
     ensures { λ r. ⌜ state-of (regs ∷ slots ∷ []) r ≡ define-word rule operand (state-of (regs ∷ slots ∷ []) s) ⌝ }
 {
     let mut t = match rule {
@@ -440,7 +417,7 @@ fn define_all(
     regs: usize,
     slots: usize,
 ) -> State
-    requires { ⌜ (at + n ≤ length (now words)) × (regs ≤ 32) × (slots ≤ 32) × ((i : ℕ) → i < n → getD (now words) (at + i) 0 / 1024 < regs) ⌝ }
+    requires { ⌜ (at + n ≤ length (now words)) × (regs ≤ max-regs) × (slots ≤ max-slots) × ((i : ℕ) → i < n → getD (now words) (at + i) 0 / 1024 < regs) ⌝ }
     ensures { λ r. ⌜ state-of (regs ∷ slots ∷ []) r ≡ define-words rule (region at n (now (words .entry))) (state-of (regs ∷ slots ∷ []) s) ⌝ }
 {
     let mut t = s;
@@ -457,7 +434,7 @@ fn define_all(
 
 // An ownership change.
 fn change(rule: Rule, s: State, regs: usize, slots: usize, slot: usize, from: u16, to: u16) -> State
-    requires { ⌜ (regs ≤ 32) × (slots ≤ 32) × (slot < slots) ⌝ }
+    requires { ⌜ (regs ≤ max-regs) × (slots ≤ max-slots) × (slot < slots) ⌝ }
     ensures { λ r. ⌜ ((ref : Name → Bool) (inst : ℕ) → state-of (regs ∷ slots ∷ []) r ≡ paper.effect rule ref (sheet.change inst slot (name-of-word from) (name-of-word to)) (state-of (regs ∷ slots ∷ []) s)) ⌝ }
 {
     match rule {
@@ -484,7 +461,7 @@ pub fn update(
     slots: usize,
     action: Action,
 ) -> State
-    requires { ⌜ (regs ≤ 32) × (slots ≤ 32) × InRange regs slots (now words) action ⌝ }
+    requires { ⌜ (regs ≤ max-regs) × (slots ≤ max-slots) × InRange regs slots (now words) action ⌝ }
     ensures { λ r. ⌜ ((ref : Name → Bool) → Honest ref (now (words .entry)) action → state-of (regs ∷ slots ∷ []) r ≡ paper.effect rule ref (step-of (now (words .entry)) action) (state-of (regs ∷ slots ∷ []) s)) ⌝ }
 {
     match action {

@@ -1,14 +1,17 @@
 // For comparison with another checker: standard input is frames, each a sheet. For each sheet it writes four frames: the old
 // answer, the house answer, the old entry states and the house entry states.
 use frames::Frame;
+use layout::QUEUE_SIZE;
+use layout::REPORT_SIZE;
+use layout::WORDS_SIZE;
 use paper::Rule;
 
 // The two answers to one sheet; whether both could be written.
 fn write_answers(
     sheet: &[u8],
     text: &mut [u8],
-    words: &mut [u16; 32768],
-    queue: &mut [u8; 16385],
+    words: &mut [u16; WORDS_SIZE],
+    queue: &mut [u8; QUEUE_SIZE],
 ) -> bool {
     let old = checker::answer_text(Rule::Old, sheet, text, words, queue);
     if !frames::write(&text[..old]) {
@@ -22,8 +25,8 @@ fn write_answers(
 fn write_states(
     sheet: &[u8],
     text: &mut [u8],
-    words: &mut [u16; 32768],
-    queue: &mut [u8; 16385],
+    words: &mut [u16; WORDS_SIZE],
+    queue: &mut [u8; QUEUE_SIZE],
 ) -> bool {
     let old = states::entry_states(Rule::Old, sheet, text, words, queue);
     if !frames::write(&text[..old]) {
@@ -37,8 +40,8 @@ fn write_states(
 fn write_frames(
     sheet: &[u8],
     text: &mut [u8],
-    words: &mut [u16; 32768],
-    queue: &mut [u8; 16385],
+    words: &mut [u16; WORDS_SIZE],
+    queue: &mut [u8; QUEUE_SIZE],
 ) -> bool {
     if !write_answers(sheet, text, words, queue) {
         os::fail(b"stream: standard output");
@@ -55,8 +58,8 @@ fn write_frames(
 fn one(
     sheet: &mut [u8],
     text: &mut [u8],
-    words: &mut [u16; 32768],
-    queue: &mut [u8; 16385],
+    words: &mut [u16; WORDS_SIZE],
+    queue: &mut [u8; QUEUE_SIZE],
 ) -> bool {
     let frame = frames::read(sheet);
     match frame {
@@ -71,9 +74,9 @@ fn one(
 
 fn main() {
     let mut sheet = [0u8; 70000];
-    let mut text = [0u8; 32784];
-    let mut words = [0u16; 32768];
-    let mut queue = [0u8; 16385];
+    let mut text = [0u8; REPORT_SIZE];
+    let mut words = [0u16; WORDS_SIZE];
+    let mut queue = [0u8; QUEUE_SIZE];
     let mut turns = u64::MAX;
     while turns > 0 && one(&mut sheet, &mut text, &mut words, &mut queue) {
         turns -= 1;

@@ -2,12 +2,14 @@ use mathlib.Core.Path.{_≡_, refl}
 use Prim.Native.Nat.{_+_, _*_, _-_, _≤_}
 use native.Mathlib.Omega.{arith}
 use lib.ListN.{length, getD}
-use Rattle.steps.specs.Laws.{in-range-32}
+use Rattle.steps.specs.Laws.{in-range-most}
+use Rattle.sheet.specs.Allocated.{in-range-at, honest-at}
 use Rattle.steps.specs.Actions.{action-at, InRange}
-use Rattle.sheet.specs.Loaded.{regs-word, slots-word, step-total}
+use Rattle.sheet.specs.Loaded.{step-total}
 use Rattle.report.proofs.LawsErrors.{error-within}
-use Rattle.report.proofs.LawsBlock.{SoFar, BlockWithin, block-within, in-range-at, honest-at, so-far-none, so-far-all, so-far-more}
+use Rattle.report.proofs.LawsBlock.{SoFar, BlockWithin, block-within, so-far-none, so-far-all, so-far-more}
 use borrow.Author.Needs.{needs}
+use Rattle.layout.specs.Layout.{regs-word, slots-word}
 use Rattle.report.proofs.check_block.Statement.{statement}
 use Rattle.report.proofs.check_block.Tie as tie
 
@@ -28,14 +30,14 @@ ranged : (c : tie.After-action-at Inv-loop μ-loop)
     InRange (getD (s .args .words .now) regs-word 0) (getD (s .args .words .now) slots-word 0) (s .args .words .now) (c .action-at .result)
 ranged c =
     let s = c .before .before .before .before .before .before .before .before .before .before in
-    rw (c .action-at .ensures) (in-range-at (s .pre .0) (s .pre .1) _ (omega arith))
+    rw (c .action-at .ensures) (in-range-at (s .pre .0 .loaded) _ (s .pre .1) (s .pre .0 .allocated) _ (omega arith))
 
 ranged-32 : (c : tie.After-action-at Inv-loop μ-loop)
     → InRange 32 32 (c .before .before .before .before .before .before .before .before .before .before .args .words .now) (c .action-at .result)
 ranged-32 c =
     let s = c .before .before .before .before .before .before .before .before .before .before in
     let w = within s in
-    in-range-32 (getD (s .args .words .now) regs-word 0) (getD (s .args .words .now) slots-word 0) (s .args .words .now) (c .action-at .result) (w .regs) (w .slots) (ranged c)
+    in-range-most (getD (s .args .words .now) regs-word 0) (getD (s .args .words .now) slots-word 0) (s .args .words .now) (c .action-at .result) (w .regs) (w .slots) (ranged c)
 
 shared-slice-read-regs : tie.Need-shared-slice-read-regs Inv-loop μ-loop
 shared-slice-read-regs c = omega (arith, within (c .before .before .before))
@@ -128,7 +130,7 @@ loop-again c = let n = c .before .before .before in
       omega arith,
       omega arith,
       so-far-more _ _ _ (a .action-at .ensures) (n .before .before .before .check .ensures _ _ (ranged a)) (n .before .inst-of .ensures _)
-          (c .update .ensures _ (rw (a .action-at .ensures) (honest-at (s .pre .0) (s .pre .1) _ (omega arith)))) (l .loop .inv .3) (n .note .ensures .0),
+          (c .update .ensures _ (rw (a .action-at .ensures) (honest-at (s .pre .0 .loaded) _ (s .pre .1) _ (omega arith)))) (l .loop .inv .3) (n .note .ensures .0),
     )
 
 same-length : tie.Need-same-length Inv-loop μ-loop

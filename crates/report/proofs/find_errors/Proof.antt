@@ -3,7 +3,8 @@ use Prim.Native.Nat.{_+_, _*_, _-_, _≤_}
 use native.Mathlib.Omega.{arith}
 use lib.ListN.{length, getD}
 use Rattle.paper.specs.Report.{block-faults, by-block}
-use Rattle.sheet.specs.Loaded.{blocks-word, sheet-of}
+use Rattle.layout.specs.Layout.{blocks-word}
+use Rattle.sheet.specs.Loaded.{sheet-of}
 use Rattle.report.specs.Passes.{Noted}
 use Rattle.report.proofs.LawsFaults.{count-from}
 use Rattle.report.proofs.LawsBlock.{count-next, count-within, blocks-none, blocks-more, blocks-all}

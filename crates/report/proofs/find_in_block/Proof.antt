@@ -6,7 +6,7 @@ use Rattle.paper.specs.Report.{missing-from}
 use Rattle.steps.specs.Actions.{steps-at}
 use Rattle.report.specs.Missing.{missing-lines}
 use Rattle.report.proofs.LawsBlock.{BlockWithin, block-within, room-at}
-use Rattle.report.proofs.LawsFaults.{steps-in}
+use Rattle.sheet.specs.Blocks.{steps-in-words}
 use Rattle.report.proofs.LawsMissing.{missing-start, missing-here, missing-later, missing-ended}
 use borrow.Author.Needs.{needs}
 use Rattle.report.proofs.find_in_block.Statement.{statement}
@@ -71,7 +71,7 @@ returns c = let l = c .before .before .before .before in
     let w = within s in
     let found = rw (c .before .before .action-at .ensures) at (sym (c .before .missing .ensures) ∙ c .if1 .taken) in
     record {
-      lines = rw (steps-in _ _ (w .opened)) (l .loop .inv .1 ∙ missing-here _ _ _ _ _ (omega arith) found);
+      lines = rw (steps-in-words _ _ (w .opened)) (l .loop .inv .1 ∙ missing-here _ _ _ _ _ (omega arith) found);
       within = (omega arith, omega arith, omega arith, found);
     }
 
@@ -89,7 +89,7 @@ loop-again c = let l = c .before .before .before .before in
 returns-2 : tie.Need-returns-2 Inv-loop μ-loop
 unfolding missing-lines
 returns-2 c = let s = c .before .before .before .before .before in
-    record { lines = rw (steps-in _ _ (within s .opened)) (c .before .loop .inv .1 ∙ missing-ended _ _ _ _ _ (omega arith)); within = tt }
+    record { lines = rw (steps-in-words _ _ (within s .opened)) (c .before .loop .inv .1 ∙ missing-ended _ _ _ _ _ (omega arith)); within = tt }
 
 pub find-in-block-spec : {M : Type 1} → statement M
 find-in-block-spec =

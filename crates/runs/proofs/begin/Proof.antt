@@ -1,6 +1,6 @@
 use native.Mathlib.Omega.{arith}
 use borrow.Author.Needs.{needs}
-use Rattle.sheet.specs.Loaded.{blocks-word}
+use Rattle.layout.specs.Layout.{blocks-word}
 use Rattle.runs.proofs.LawsBegin.{begun}
 use Rattle.runs.proofs.begin.Statement.{statement}
 use Rattle.runs.proofs.begin.Tie as tie

@@ -1,7 +1,7 @@
 use Prim.Native.Nat.{_+_, _*_}
 use native.Mathlib.Omega.{arith}
 use borrow.Author.Needs.{needs}
-use Rattle.steps.specs.Layout.{block-base, block-words}
+use Rattle.layout.specs.Layout.{block-base, block-words}
 use Rattle.runs.specs.Allowed.{loaded-runnable}
 use Rattle.runs.proofs.LawsThrough.{through-is}
 use Rattle.runs.proofs.through.Statement.{statement}

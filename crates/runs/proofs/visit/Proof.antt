@@ -2,7 +2,7 @@ use Prim.Native.Nat.{ℕ, _+_, _*_, _-_}
 use native.Mathlib.Omega.{arith}
 use borrow.Author.Needs.{needs}
 use lib.ListN.{getD}
-use Rattle.steps.specs.Layout.{block-base, block-words}
+use Rattle.layout.specs.Layout.{block-base, block-words}
 use Rattle.runs.proofs.LawsVisit.{Serving, serving-none, serving-more, still-allocated, first-below, Visiting, visiting, serving-ready, serving-block, serving-sound, serving-room, moved-visit}
 use Rattle.runs.proofs.visit.Statement.{statement}
 use Rattle.runs.proofs.visit.Tie as tie

@@ -3,6 +3,7 @@ use mathlib.Core.List.{List}
 use Prim.Native.Nat.{ℕ, _+_}
 use lib.ListN.{length, getD, set}
 use Rattle.lists.specs.Over.{length-over}
+use Rattle.layout.specs.Layout.{opened-word}
 use Rattle.sheet.proofs.LawsBody.{block-stored, block-written}
 use native.Mathlib.Omega.{arith}
 use mathlib.Core.Path.{refl}
@@ -73,7 +74,7 @@ same-length c = simp length-set (ap length (c .before .before .store-succs .ensu
 returns : tie.Need-returns
 returns c = let s = c .before .before .before .before .before .before .before in
     block-stored _ _ (s .pre .0) _ _ (s .pre .1) (s .pre .2) (s .good .1 .0 .1 .0 .1)
-    (block-written _ _ _ _ (omega arith) (omega arith) (s .pre .2 .few) (ap (λ (t : List ℕ). set t 5 (getD (s .args .words .now) 5 0 + 1)) (c .before .before .store-succs .ensures)))
+    (block-written _ _ _ _ (omega arith) (omega arith) (s .pre .2 .few) (ap (λ (t : List ℕ). set t opened-word (getD (s .args .words .now) opened-word 0 + 1)) (c .before .before .store-succs .ensures)))
 
 pub add-block-spec : {M : Type 1} → statement M
 add-block-spec =

@@ -5,6 +5,7 @@ use Rattle.sheet.proofs.LawsBody.{step-stored, step-written}
 use native.Mathlib.Omega.{arith}
 use mathlib.Core.Path.{refl}
 use lib.ListN.{length-set}
+use Rattle.layout.specs.Layout.{opened-word, block-base, step-total-word, block-words}
 use borrow.Author.Needs.{needs}
 use Rattle.sheet.proofs.add_step.Statement.{statement}
 use Rattle.sheet.proofs.add_step.Tie as tie
@@ -44,8 +45,8 @@ slice-read-words c = search needs
 
 add-words : tie.Need-add-words
 add-words c = let s = c .before .before .before .before .before .before .before .before in
-    let b : ℕ = getD (s .args .words .now) 5 0 - 1 in
-    let same : getD (c .before .before .before .put-action .last .0) (272 + b * 12 + 1) 0 ≡ getD (s .args .words .now) (272 + b * 12 + 1) 0 = c .before .before .before .put-action .ensures .1 .below (272 + b * 12 + 1) (omega arith) in
+    let b : ℕ = getD (s .args .words .now) opened-word 0 - 1 in
+    let same : getD (c .before .before .before .put-action .last .0) (block-base + b * block-words + step-total-word) 0 ≡ getD (s .args .words .now) (block-base + b * block-words + step-total-word) 0 = c .before .before .before .put-action .ensures .1 .below (block-base + b * block-words + step-total-word) (omega arith) in
     omega (arith, s .pre .0 .last b (omega arith))
 
 mul-words-2 : tie.Need-mul-words-2
@@ -66,7 +67,7 @@ same-length c = search needs
 returns : tie.Need-returns
 returns c = let s = c .before .before .before .before .before .before .before .before in
     let p = c .before .before .before .put-action .ensures in
-    let b : ℕ = getD (s .args .words .now) 5 0 - 1 in
+    let b : ℕ = getD (s .args .words .now) opened-word 0 - 1 in
     step-stored _ _ (s .pre .0) b (omega arith) (s .pre .2) _ (s .pre .3) (step-written _ _ _ b _ (omega arith) (omega arith) (s .pre .2) (p .1) (p .0) refl)
 
 pub add-step-spec : {M : Type 1} → statement M

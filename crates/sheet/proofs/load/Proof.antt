@@ -4,6 +4,7 @@ use native.Mathlib.Omega.{arith}
 use mathlib.Core.List.{_++_}
 use lib.ListN.{length, drop}
 use lib.Seq.{length-take-le}
+use Rattle.layout.specs.Layout.{block-base}
 use Rattle.sheet.specs.Reading.{SheetText}
 use Rattle.sheet.proofs.LawsText.{text-of}
 use Rattle.sheet.proofs.LawsProgress.{size-of}
@@ -22,7 +23,7 @@ abbrev μ-loop : tie.MeasureT-loop
 text : (c : tie.After-slice-known2 Inv-loop μ-loop) → SheetText (c .before .before .before .before .before .before .before .before .args .sheet .now)
 text c = text-of _ (sym (c .before .before .before .before .before .no-text .ensures) ∙ c .before .before .before .before .if1 .left)
 
-started : (c : tie.After-slice-known2 Inv-loop μ-loop) → length (c .before .before .clear-words .last .0 ++ drop 272 (c .before .before .before .before .before .before .before .before .args .words .now)) ≡ length (c .before .before .before .before .before .before .before .before .args .words .now)
+started : (c : tie.After-slice-known2 Inv-loop μ-loop) → length (c .before .before .clear-words .last .0 ++ drop block-base (c .before .before .before .before .before .before .before .before .args .words .now)) ≡ length (c .before .before .before .before .before .before .before .before .args .words .now)
 started c = cleared-length (c .before .before .before .before .before .before .before .before .args .words .now) _ (c .before .before .clear-words .ensures) (omega (arith, c .before .before .before .before .before .before .before .before .pre))
 
 no-text-requires : tie.Need-no-text-requires Inv-loop μ-loop
@@ -35,7 +36,7 @@ slice-relend-prefix-clear-words : tie.Need-slice-relend-prefix-clear-words Inv-l
 slice-relend-prefix-clear-words c = omega arith
 
 slice-aggregate-clear-words : tie.Need-slice-aggregate-clear-words Inv-loop μ-loop
-slice-aggregate-clear-words c = sym (length-take-le 272 (c .before .before .before .before .before .args .words .now) (omega arith))
+slice-aggregate-clear-words c = sym (length-take-le block-base (c .before .before .before .before .before .args .words .now) (omega arith))
 
 clear-words-requires : tie.Need-clear-words-requires Inv-loop μ-loop
 clear-words-requires c κs = tt

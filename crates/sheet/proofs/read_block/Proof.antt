@@ -7,6 +7,7 @@ use lib.ListN.{getD}
 use borrow.Author.Tests.{leb-false}
 use lib.ListN.{take}
 use Rattle.paper.specs.Refusals.{block-record, block-of}
+use Rattle.layout.specs.Layout.{blocks-word, opened-word}
 use Rattle.fields.specs.Fields.{fields-behind}
 use Rattle.records.specs.Records.{Told}
 use Rattle.sheet.specs.Loaded.{sheet-of}
@@ -21,7 +22,7 @@ told : (c : tie.After-block-line) → Told (sheet-of (c .before .before .before 
 told c = c .block-line .ensures .0 (sheet-of (c .before .before .before .before .before .args .words .now)) (counted-by _ _ (c .before .counts .ensures))
 
 -- the line breaks nothing, and stands in its place
-clear : (c : tie.Else1) → (c .before .before .before .before .block-line .result .number ≡ 0) × (leb (getD (c .before .before .before .before .before .before .before .before .before .args .words .now) 3 0) (getD (c .before .before .before .before .before .before .before .before .before .args .words .now) 5 0) ≡ false)
+clear : (c : tie.Else1) → (c .before .before .before .before .block-line .result .number ≡ 0) × (leb (getD (c .before .before .before .before .before .before .before .before .before .args .words .now) blocks-word 0) (getD (c .before .before .before .before .before .before .before .before .before .args .words .now) opened-word 0) ≡ false)
 clear c = let z = lowest-zero _ _ _ (sym (c .before .lowest .ensures) ∙ c .if1 .left) in (z .0, z .1)
 
 counts-requires : tie.Need-counts-requires

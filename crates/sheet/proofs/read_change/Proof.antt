@@ -8,6 +8,7 @@ use Prim.Native.Nat.{_%_}
 use Rattle.lists.specs.Region.{region, length-region}
 use Rattle.paper.specs.Sheet.{change}
 use Rattle.paper.specs.Refusals.{step-record, change-of}
+use Rattle.layout.specs.Layout.{typed-base, typed-words}
 use Rattle.fields.specs.Fields.{fields-behind}
 use Rattle.cells.specs.Packed as cells
 use Rattle.records.specs.Records.{Told}
@@ -43,7 +44,7 @@ part-change-line-end c = omega (arith, size-of _ (c .before .before .before .bef
 change-line-requires : tie.Need-change-line-requires
 unfolding region
 change-line-requires c κs = let s = c .before .before .before .before .before .before in
-    (s .pre .0, length-region 16 256 (s .args .words .now) (omega (arith, size-of _ (s .pre .1))), within-by _ _ (c .before .before .counts .ensures) (s .pre .1))
+    (s .pre .0, length-region typed-base typed-words (s .args .words .now) (omega (arith, size-of _ (s .pre .1))), within-by _ _ (c .before .before .counts .ensures) (s .pre .1))
 
 cast-inst : tie.Need-cast-inst
 cast-inst c = omega arith

@@ -4,6 +4,7 @@ use native.Mathlib.Omega.{arith}
 use borrow.Author.Tests.{not-false, eqb-true}
 use lib.Dec.{eqb}
 use lib.ListN.{getD}
+use Rattle.layout.specs.Layout.{begun-word}
 use Rattle.records.specs.Records.{FunctionWithin}
 use Rattle.sheet.specs.Loaded.{sheet-of}
 use Rattle.sheet.proofs.LawsJudged.{lowest-zero}
@@ -14,7 +15,7 @@ use Rattle.sheet.proofs.read_function.Statement.{statement}
 use Rattle.sheet.proofs.read_function.Tie as tie
 
 -- the line breaks nothing, and stands in its place
-clear : (c : tie.Else1) → (c .before .before .before .function-line .result .number ≡ 0) × (not (eqb (getD (c .before .before .before .before .before .before .args .words .now) 8 0) 0) ≡ false)
+clear : (c : tie.Else1) → (c .before .before .before .function-line .result .number ≡ 0) × (not (eqb (getD (c .before .before .before .before .before .before .args .words .now) begun-word 0) 0) ≡ false)
 clear c = let z = lowest-zero _ _ _ (sym (c .before .lowest .ensures) ∙ c .if1 .left) in (z .0, z .1)
 
 within : (c : tie.Else1) → FunctionWithin (c .before .before .before .function-line .result .regs) (c .before .before .before .function-line .result .slots) (c .before .before .before .function-line .result .vregs) (c .before .before .before .function-line .result .blocks) (c .before .before .before .function-line .result .entry)

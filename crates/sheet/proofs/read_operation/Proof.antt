@@ -9,11 +9,12 @@ use lib.ListN.{length, length-map}
 use Rattle.lists.specs.Region.{region, length-region}
 use Rattle.paper.specs.Sheet.{operation}
 use Rattle.paper.specs.Refusals.{step-record, operation-of}
+use Rattle.layout.specs.Layout.{regs-word, typed-base, typed-words}
 use Rattle.fields.specs.Fields.{fields-behind}
 use Rattle.records.specs.Records.{Told, GroupWithin}
 use Rattle.steps.specs.Actions.{step-of}
 use Rattle.steps.specs.declared.Action.the-variants.{Operation}
-use Rattle.sheet.specs.Loaded.{regs-word, sheet-of}
+use Rattle.sheet.specs.Loaded.{sheet-of}
 use Rattle.sheet.proofs.LawsJudged.{operations-alike}
 use Rattle.sheet.proofs.LawsProgress.{size-of, counted-by, within-by, typed-by}
 use Rattle.sheet.proofs.LawsOperands.{operands-place, operands-room, progress-kept, sheet-kept, line-kept, operation-stored, operation-fits}
@@ -57,7 +58,7 @@ part-operation-line-end c = omega (arith, size-of _ (c .before .before .before .
 operation-line-requires : tie.Need-operation-line-requires
 unfolding region
 operation-line-requires c κs = let s = c .before .before .before .before .before .before in
-    (s .pre .0, length-region 16 256 (s .args .words .now) (omega (arith, size-of _ (s .pre .1))), within-by _ _ (c .before .before .counts .ensures) (s .pre .1))
+    (s .pre .0, length-region typed-base typed-words (s .args .words .now) (omega (arith, size-of _ (s .pre .1))), within-by _ _ (c .before .before .counts .ensures) (s .pre .1))
 
 slice-read-place : tie.Need-slice-read-place
 slice-read-place c = omega (arith, size-of _ (c .before .before .before .before .before .before .before .before .pre .1))

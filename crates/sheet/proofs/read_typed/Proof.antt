@@ -10,6 +10,7 @@ use Rattle.fields.specs.Fields.{fields-behind}
 use Rattle.records.specs.Records.{Told}
 use Rattle.sheet.specs.Loaded.{sheet-of}
 use Rattle.lists.specs.Or.{or-left, or-right}
+use Rattle.layout.specs.Layout.{opened-word, begun-word}
 use Rattle.sheet.proofs.LawsJudged.{lowest-zero}
 use Rattle.sheet.proofs.LawsProgress.{size-of, begun-of, counted-by, least-of}
 use Rattle.sheet.proofs.LawsLines.{told-most, typed-refused, typed-accepted}
@@ -21,7 +22,7 @@ told : (c : tie.After-typed-line) → Told (sheet-of (c .before .before .before 
 told c = c .typed-line .ensures .0 (sheet-of (c .before .before .before .before .before .before .args .words .now)) (counted-by _ _ (c .before .before .counts .ensures)) (least-of _ (c .before .before .before .before .before .before .pre .1))
 
 -- the line breaks nothing, and stands in its place
-clear : (c : tie.Else1) → (c .before .before .before .before .typed-line .result .number ≡ 0) × ((eqb (getD (c .before .before .before .before .before .before .before .before .before .before .args .words .now) 8 0) 0 || not (eqb (getD (c .before .before .before .before .before .before .before .before .before .before .args .words .now) 5 0) 0)) ≡ false)
+clear : (c : tie.Else1) → (c .before .before .before .before .typed-line .result .number ≡ 0) × ((eqb (getD (c .before .before .before .before .before .before .before .before .before .before .args .words .now) begun-word 0) 0 || not (eqb (getD (c .before .before .before .before .before .before .before .before .before .before .args .words .now) opened-word 0) 0)) ≡ false)
 clear c = let z = lowest-zero _ _ _ (sym (c .before .lowest .ensures) ∙ c .if1 .left) in (z .0, z .1)
 
 counts-requires : tie.Need-counts-requires
@@ -60,7 +61,7 @@ add-typed-requires : tie.Need-add-typed-requires
 add-typed-requires c κs = let e = c .before .before in
     let w = e .before .before .before .before .typed-line .ensures .1 (clear e .0) in
     let z = clear e .1 in
-    (begun-of _ (e .before .before .before .before .before .before .before .before .before .before .pre .1) (eqb-false _ _ (or-left _ _ z)), eqb-true _ _ (not-false _ (or-right (eqb (getD (e .before .before .before .before .before .before .before .before .before .before .args .words .now) 8 0) 0) _ z)), rw (e .before .before .before .before .before .before .counts .ensures) at (w .0), w .1)
+    (begun-of _ (e .before .before .before .before .before .before .before .before .before .before .pre .1) (eqb-false _ _ (or-left _ _ z)), eqb-true _ _ (not-false _ (or-right (eqb (getD (e .before .before .before .before .before .before .before .before .before .before .args .words .now) begun-word 0) 0) _ z)), rw (e .before .before .before .before .before .before .counts .ensures) at (w .0), w .1)
 
 add-t21 : tie.Need-add-t21
 add-t21 c = let e = c .before .before .before .before .before .before in

@@ -5,6 +5,8 @@ use native.Mathlib.Omega.{arith}
 use borrow.Author.Tests.{eqb-false, leb-false}
 use lib.Dec.{eqb, leb}
 use lib.ListN.{getD}
+use Rattle.paper.specs.Limits.{max-steps}
+use Rattle.layout.specs.Layout.{opened-word, steps-word}
 use Rattle.sheet.proofs.LawsJudged.{lowest-zero}
 use Rattle.sheet.proofs.LawsProgress.{size-of, begun-by-opened}
 use Rattle.sheet.proofs.LawsLines.{step-refused, step-accepted}
@@ -13,7 +15,7 @@ use Rattle.sheet.proofs.step_line.Statement.{statement}
 use Rattle.sheet.proofs.step_line.Tie as tie
 
 -- the line breaks nothing, stands in its place, and there is room for the step
-clear : (c : tie.Else1) → (c .before .before .before .before .before .args .number ≡ 0) × (eqb (getD (c .before .before .before .before .before .args .words .now) 5 0) 0 ≡ false) × (leb 1024 (getD (c .before .before .before .before .before .args .words .now) 6 0) ≡ false)
+clear : (c : tie.Else1) → (c .before .before .before .before .before .args .number ≡ 0) × (eqb (getD (c .before .before .before .before .before .args .words .now) opened-word 0) 0 ≡ false) × (leb max-steps (getD (c .before .before .before .before .before .args .words .now) steps-word 0) ≡ false)
 clear c = lowest-zero _ _ _ (sym (c .before .lowest .ensures) ∙ c .if1 .left)
 
 slice-read-lowest : tie.Need-slice-read-lowest

@@ -3,7 +3,7 @@ use Prim.Native.Nat.{_≤_, _-_}
 use native.Mathlib.Omega.{arith}
 use lib.ListN.{length, getD, length-set}
 use Rattle.lists.specs.Over.{over, over-none, over-step}
-use Rattle.steps.specs.Layout.{operand-words}
+use Rattle.layout.specs.Layout.{operand-words}
 use Rattle.sheet.proofs.store_operands.Statement.{statement}
 use Rattle.sheet.proofs.store_operands.Tie as tie
 

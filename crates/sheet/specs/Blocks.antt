@@ -1,21 +1,20 @@
--- Blocks in words: one block more, one step more in the last one, and what a change behind the words that were read leaves as it was.
-use mathlib.Core.Path.{_≡_, refl, sym, ap, ap₂, _∙_}
-use mathlib.Core.Bool.{Bool}
+-- Blocks in words: one by one, one block more, one step more in the last one, and what a change elsewhere leaves as it was.
+use mathlib.Core.Path.{_≡_, refl, ap, ap₂, _∙_}
 use mathlib.Core.List.{List, [], _∷_, _++_}
 use Prim.Native.Nat.{ℕ, zero, suc, _+_, _*_, _≤_, _<_}
-use native.Mathlib.Nat.{zero-add, suc-add, add-suc, add-zero}
+use native.Mathlib.Nat.{zero-add, add-zero}
 use native.Mathlib.Numerals.{add-one}
 use native.Mathlib.Omega.{arith}
 use lib.ListN.{length, getD}
 use Rattle.lists.specs.Region.{region, same-region}
 use Rattle.paper.specs.Text.{Name, real, virtual}
-use Rattle.paper.specs.Sheet.{Step, Block, Sheet, reference-typed}
+use Rattle.paper.specs.Sheet.{Step, Block, no-block, succs-of, steps-of, reference-typed}
 use Rattle.paper.specs.Refusals.{add-step, step-count}
-use Rattle.paper.specs.Limits.{max-steps}
-use Rattle.steps.specs.Layout.{typed-base, typed-words, block-base, block-words, step-base, most-steps, all-words}
-use Rattle.steps.specs.Actions.{step-of, action-at, steps-at, Ranged, Honest}
-use Rattle.sheet.specs.Loaded.{regs-word, slots-word, blocks-word, opened-word, steps-word, first-step, step-total, succ-total, succ-base, block-at, blocks-at, marked-from, sheet-of, BlockBounds, StepBounds, Bounds}
-use Rattle.sheet.proofs.LawsSteps.{SameSteps, packs-at, same-action, same-step, same-within, same-honest, room-within, steps-alike}
+use Rattle.layout.specs.Layout.{regs-word, slots-word, blocks-word, opened-word, steps-word, typed-base, typed-words, block-base, step-total-word, succ-total-word, succs-from, block-words, succ-base, all-words}
+use Rattle.steps.specs.Actions.{step-of, action-at, steps-at}
+use Rattle.sheet.specs.Loaded.{first-step, step-total, succ-total, block-at, blocks-at, sheet-of, BlockBounds, StepBounds, Bounds}
+use Rattle.steps.specs.Laws.{room-within}
+use Rattle.steps.specs.Same.{SameSteps, packs-at, same-action, same-step, same-within, same-honest, steps-alike}
 
 -- ---- a run of blocks
 
@@ -41,6 +40,31 @@ blocks-alike l m b zero e = refl
 blocks-alike l m b (suc n) e =
     ap₂ (λ (B : Block) (t : List Block). B ∷ t) (e b (omega arith) (omega arith)) (blocks-alike l m (b + 1) n (λ i p q. e i (omega arith) (omega arith)))
 
+-- the blocks from `from` on, one by one
+block-from : (words : List ℕ) (from n b : ℕ) → b < n → getD (blocks-at words from n) b no-block ≡ block-at words (from + b)
+unfolding blocks-at
+block-from words from zero b h = absurd (omega arith)
+block-from words from (suc n) zero h = rw add-zero
+block-from words from (suc n) (suc b) h = block-from words (from + 1) n b (omega arith) ∙ ap (block-at words) (omega arith)
+
+block-beyond : (words : List ℕ) (from n b : ℕ) → n ≤ b → getD (blocks-at words from n) b no-block ≡ no-block
+unfolding blocks-at
+block-beyond words from zero b h = refl
+block-beyond words from (suc n) zero h = absurd (omega arith)
+block-beyond words from (suc n) (suc b) h = block-beyond words (from + 1) n b (omega arith)
+
+pub succs-in-words : (words : List ℕ) (b : ℕ) → b < getD words opened-word 0 → succs-of (sheet-of words) b ≡ region (succ-base b) (succ-total words b) words
+unfolding sheet-of block-at
+succs-in-words words b h = ap (λ (x : Block). x .succs) (block-from words 0 _ b h ∙ ap (block-at words) (zero-add b))
+
+pub succs-beyond : (words : List ℕ) (b : ℕ) → getD words opened-word 0 ≤ b → succs-of (sheet-of words) b ≡ []
+unfolding sheet-of
+succs-beyond words b h = ap (λ (x : Block). x .succs) (block-beyond words 0 _ b h)
+
+pub steps-in-words : (words : List ℕ) (b : ℕ) → b < getD words opened-word 0 → steps-of (sheet-of words) b ≡ steps-at words (first-step words b) (step-total words b)
+unfolding sheet-of block-at
+steps-in-words words b h = ap (λ (x : Block). x .steps) (block-from words 0 _ b h ∙ ap (block-at words) (zero-add b))
+
 -- ---- one step more
 
 pub add-step-last : (x : Step) (Bs : List Block) (B : Block)
@@ -63,7 +87,7 @@ pub record SameHead (l m : List ℕ) : Type 0 where
 
 -- a block's words but for how many steps it has
 pub record SameLinks (l m : List ℕ) (b : ℕ) : Type 0 where
-  pub words : (i : ℕ) → i < block-words → (i ≡ 1 → ⊥) → getD m (block-base + b * block-words + i) 0 ≡ getD l (block-base + b * block-words + i) 0
+  pub words : (i : ℕ) → i < block-words → (i ≡ step-total-word → ⊥) → getD m (block-base + b * block-words + i) 0 ≡ getD l (block-base + b * block-words + i) 0
 
 pub same-typed : {l m : List ℕ} → SameHead l m → all-words ≤ length l → length m ≡ length l → region typed-base typed-words m ≡ region typed-base typed-words l
 same-typed {l} {m} head size e =
@@ -96,7 +120,7 @@ module _ {l m : List ℕ} (bounds : Bounds l) (head : SameHead l m) (steps : Sam
 
   module _ (b : ℕ) (h : b < getD l opened-word 0) (same : SameLinks l m b) where
     pub same-succ-total : succ-total m b ≡ succ-total l b
-    same-succ-total = same .words 2 (omega arith) (λ e. omega arith)
+    same-succ-total = same .words succ-total-word (omega arith) (λ e. omega arith)
 
     pub same-first : first-step m b ≡ first-step l b
     same-first = rw add-zero at (same .words 0 (omega arith) (λ e. omega arith))
@@ -104,8 +128,8 @@ module _ {l m : List ℕ} (bounds : Bounds l) (head : SameHead l m) (steps : Sam
     same-succ : (i : ℕ) → i < succ-total l b → getD m (succ-base b + i) 0 ≡ getD l (succ-base b + i) 0
     same-succ i q =
         let few = bounds .each-block b h .succs in
-        let e : block-base + b * block-words + (3 + i) ≡ succ-base b + i = omega arith in
-        rw e at (same .words (3 + i) (omega arith) (λ e. omega arith))
+        let e : block-base + b * block-words + (succs-from + i) ≡ succ-base b + i = omega arith in
+        rw e at (same .words (succs-from + i) (omega arith) (λ e. omega arith))
 
     pub same-succs : region (succ-base b) (succ-total m b) m ≡ region (succ-base b) (succ-total l b) l
     same-succs =

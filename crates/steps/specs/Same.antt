@@ -1,21 +1,19 @@
 -- Steps in words: words that agree where a step stands mean the same step, with the same bounds.
-use mathlib.Core.Path.{_≡_, refl, sym, ap, ap₂, _∙_}
+use mathlib.Core.Path.{_≡_, refl, ap, ap₂}
 use mathlib.Core.Bool.{Bool}
-use mathlib.Core.Logic.{_⊎_}
 use mathlib.Core.List.{List, [], _∷_, _++_, map}
-use Prim.Native.Nat.{ℕ, zero, suc, _+_, _*_, _/_, _%_, _≤_, _<_}
-use native.Mathlib.Nat.{zero-add, suc-add, add-suc, add-zero}
+use Prim.Native.Nat.{ℕ, zero, suc, _+_, _*_, _≤_, _<_}
+use native.Mathlib.Nat.{add-zero}
 use native.Mathlib.Numerals.{add-one}
 use native.Mathlib.Omega.{arith}
 use lib.ListN.{length, getD}
-use Rattle.lists.specs.Region.{region, same-region}
+use Rattle.lists.specs.Region.{same-region}
 use Rattle.paper.specs.Text.{Name}
-use Rattle.paper.specs.Sheet.{Operand, Step, operation}
-use Rattle.cells.specs.Packed.{name-of-word, marked}
-use Rattle.steps.specs.Layout.{step-base, step-words, operand-base, operand-words, defs-from, most-steps, all-words}
+use Rattle.paper.specs.Sheet.{Step}
+use Rattle.layout.specs.Layout.{step-base, step-words, operand-base, defs-from, operand-words}
 use Rattle.steps.specs.Actions.{operand-of, operands, step-of, action-of, action-at, steps-at, Within, Honest, Packs, RoomFor}
 use Rattle.steps.specs.declared.Action.{Action}
 use Rattle.steps.specs.declared.Action.the-variants.{Spill, Reload, Move, Change, Operation, Safepoint}
 
 -- the operands of the first n steps are the same
 pub record SameOperands (l m : List ℕ) (n : ℕ) : Type 0 where
@@ -102,14 +100,6 @@ module _ {l m : List ℕ} {n : ℕ} (same : SameOperands l m n) (k : ℕ) (h : k
     same-honest (Change inst slot from to) p q t = t
     same-honest (Operation inst at uses defs) p q t = λ i h. rw (same-def at (p .0) i (omega arith), e) (t i h)
     same-honest (Safepoint inst mask) p q t = t
-
-pub room-within : (regs slots : ℕ) (Register : ℕ → Type 0) (l : List ℕ) (a : Action) → Within regs slots Register l a → RoomFor a l
-room-within regs slots Register l (Spill slot r) w = tt
-room-within regs slots Register l (Reload r slot) w = tt
-room-within regs slots Register l (Move into from) w = tt
-room-within regs slots Register l (Change inst slot from to) w = tt
-room-within regs slots Register l (Operation inst at uses defs) w = (w .0, w .1, w .2)
-room-within regs slots Register l (Safepoint inst mask) w = tt
 
 -- ---- a run of steps
 

@@ -1,23 +1,11 @@
--- Where a run stands in the lent words: behind the loaded sheet the blocks' states, then a mark for each block.
+-- Of the lent words, which a run changes, and the state that stands in a block's words.
 use mathlib.Core.List.{List, [], _∷_}
-use Prim.Native.Nat.{ℕ, _+_, _*_, _-_}
+use Prim.Native.Nat.{ℕ, _-_}
 use Rattle.lists.specs.Kept.{Kept}
 use Rattle.paper.specs.Sheet.{Sheet}
 use Rattle.paper.specs.Steps.{State}
+use Rattle.layout.specs.Layout.{state-base, state-at, run-words}
 use Rattle.cells.specs.States.{stored-state}
-use Rattle.steps.specs.Layout.{most-blocks, state-base, state-words, all-words}
-
-abbrev pub state-at : ℕ → ℕ
-state-at b = state-base + b * state-words
-
-abbrev pub mark-base : ℕ
-mark-base = all-words
-
-abbrev pub mark-at : ℕ → ℕ
-mark-at b = mark-base + b
-
-abbrev pub run-words : ℕ
-run-words = mark-base + most-blocks
 
 -- only the run's words changed
 abbrev pub RunKept : List ℕ → List ℕ → Type 0
