@@ -8,7 +8,6 @@ use native.Mathlib.Nat.{zero-add}
 use native.Mathlib.Omega.{arith}
 use lib.Dec.{ltb}
 use lib.ListN.{length, drop, length-append}
-use lib.Seq.{sets-eq}
 use borrow.Author.Tests.{ltb-false}
 use Rattle.lists.specs.Sets.{Wrote, length-wrote}
 use Rattle.fields.specs.Spelling.{length-digits}
@@ -20,6 +19,7 @@ use Rattle.paper.specs.Answer.{Said, accepted, faulty, turned-away, said-of, sa
 use Rattle.paper.specs.declared.Rule.{Rule}
 use Rattle.paper.specs.declared.Answer.{Answer}
 use Rattle.paper.specs.declared.Answer.the-variants.{Accepted, Faulty, Refused}
+use Rattle.report.proofs.LawsReported.{wrote-laid}
 use Rattle.checker.specs.Checked.{lent, refusal-text, AnswerWithin, Checked, text-of, lent-behind, Texted}
 use Rattle.checker.proofs.Refused.{read-bounded}
 
@@ -40,15 +40,9 @@ unfolding refusal-text written behind-tabs
 refusal-length number line h k =
     omega (arith, length-append (digits number) (tab ∷ (digits line ++ (line-feed ∷ []))), length-append (digits line) (line-feed ∷ []), digits-short number (omega arith), digits-short line k)
 
-laid-length : (text report : List ℕ) → length text ≤ length (laid text report)
+pub laid-length : (text report : List ℕ) → length text ≤ length (laid text report)
 unfolding laid
 laid-length text report = omega (arith, length-append text (drop (length text) report))
-
-wrote-laid : {l xs l′ : List ℕ} {k : ℕ} → Wrote l 0 xs l′ k → k ≤ length l → l′ ≡ laid xs l
-unfolding laid
-wrote-laid {l} {xs} w h =
-    let z : 0 + length xs ≡ length xs = omega arith in
-    w .list ∙ rw z at (sets-eq xs l 0 (omega (arith, w .next)))
 
 -- bytes are never refused by number 1
 said-number : (rule : Rule) (sheet : Bytes) (number line : ℕ) → answer rule sheet ≡ turned-away number line → 2 ≤ number

@@ -28,7 +28,7 @@ wrote-report : (rule : Rule) (ls : List Line) {l l₁ l₂ : List ℕ} {j k : �
 unfolding report-text header-text
 wrote-report rule ls p q = then p q
 
-wrote-laid : {l xs l′ : List ℕ} {k : ℕ} → Wrote l 0 xs l′ k → k ≤ length l → l′ ≡ laid xs l
+pub wrote-laid : {l xs l′ : List ℕ} {k : ℕ} → Wrote l 0 xs l′ k → k ≤ length l → l′ ≡ laid xs l
 unfolding laid
 wrote-laid {l} {xs} w h =
     let z : 0 + length xs ≡ length xs = omega arith in
