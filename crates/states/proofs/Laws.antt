@@ -12,6 +12,7 @@ use Rattle.lists.specs.Sets.{Wrote, then}
 use Rattle.lists.specs.Region.{region}
 use Rattle.lists.specs.Grown.{region-more}
 use Rattle.paper.specs.Text.{Bytes, tab, line-feed, digit-from, digits, name-text}
+use Rattle.paper.specs.Limits.{max-regs, max-slots, max-blocks}
 use Rattle.paper.specs.Sheet.{Sheet}
 use Rattle.paper.specs.Cells.{named}
 use Rattle.paper.specs.Steps.{State}
@@ -22,7 +23,7 @@ use Rattle.cells.specs.Packed.{name-of-word, marked, of-kind, cell-of}
 use Rattle.cells.specs.States.{cells-of, state-of, rows-at, stored-state}
 use Rattle.report.proofs.LawsLines.{name-short}
 use Rattle.sheet.specs.Loaded.{regs-word, slots-word, blocks-word, sheet-of}
-use Rattle.runs.specs.Layout.{state-at, mark-at}
+use Rattle.runs.specs.Layout.{state-at, mark-at, run-words}
 use Rattle.runs.specs.Table.{mark-of}
 use Rattle.states.specs.EntryStates.{mark-text, cell-text, cell-texts, visited-text, letter-D, block-text, blocks-text}
 use Rattle.states.specs.Stated.{Entered, tabbed, row-text, head-text}
@@ -123,6 +124,10 @@ line-spelled b visited fs =
     (behind-tabbed (digits b ∷ (visited ∷ []) ∷ fs) ∙ ap (λ (t : Bytes). t ++ (line-feed ∷ [])) (tabbed-append (digits b ∷ (visited ∷ []) ∷ []) fs))
 
 module _ {rule : Rule} {words : List ℕ} {b : ℕ} (E : Entered rule words) (h : b < getD words blocks-word 0) where
+  -- the block's words lie in the lent words
+  pub block-room : (b < max-blocks) × (getD words regs-word 0 ≤ max-regs) × (getD words slots-word 0 ≤ max-slots) × (run-words ≤ length words)
+  block-room = (omega (arith, E .loaded .bounds .blocks), E .loaded .bounds .regs, E .loaded .bounds .slots, E .room)
+
   -- its parts, one behind the other
   pub wrote-block : {l l₁ l₂ l₃ l₄ : List ℕ} {at j k m n : ℕ} (visited : ℕ)
       → ((o : Option State) → getD words (mark-at b) 0 ≡ mark-of o → (visited ∷ []) ≡ visited-text rule o)

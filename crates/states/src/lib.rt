@@ -103,11 +103,12 @@ fn write_block(rule: Rule, words: &[u16], out: &mut [u8], at: usize, b: usize) -
 {
     let regs = words[REGS_WORD] as usize;
     let slots = words[SLOTS_WORD] as usize;
-    let from = STATE_BASE + b * STATE_WORDS;
+    let row = STATE_BASE + b * STATE_WORDS;
+    let next_row = row + ROW_WORDS;
     let mark = visited(rule, words[MARK_BASE + b]);
     let head = write_head(out, at, b, mark);
-    let first = write_row(out, head, words, from, regs);
-    let second = write_row(out, first, words, from + ROW_WORDS, slots);
+    let first = write_row(out, head, words, row, regs);
+    let second = write_row(out, first, words, next_row, slots);
     fields::write_byte(out, second, b'\n')
 }
 
