@@ -1,7 +1,5 @@
-// Frames on standard input and output: a line `#` and a decimal length, then that many bytes.
-ghost use Prim.Native.Nat.{_≤_};
-ghost use lib.ListN.{length};
-ghost use Rattle.frames.specs.Frame.{FrameWithin};
+// Frames on standard input and output: a line `#` and a decimal length of at most five digits, then that many bytes.
+ghost use Rattle.frames.specs.Frame.{LengthWithin, FrameLeft};
 
 // A frame was read, of so many bytes; the input ended; or what came is no frame.
 pub enum Frame {
@@ -15,6 +13,11 @@ enum Byte {
     None,
 }
 
+enum Length {
+    Value(usize),
+    Bad,
+}
+
 fn read_byte() -> Byte {
     let mut one = [0u8; 1];
     let got = libc::read(libc::STDIN_FILENO, &mut one);
@@ -25,38 +28,40 @@ fn read_byte() -> Byte {
     }
 }
 
-// The length that a frame's first line says; 10,000,000 where it is no length.
-fn read_length() -> usize {
+// The length that a frame's first line says.
+fn read_length() -> Length
+    ensures { λ r. ⌜ LengthWithin r ⌝ }
+{
     let mut length: usize = 0;
     let mut digits: usize = 0;
     while digits < 7 {
         let Byte::Value(b) = read_byte() else {
-            return 10000000;
+            return Length::Bad;
         };
         if b == b'\n' {
             if digits == 0 {
-                return 10000000;
+                return Length::Bad;
             }
-            return length;
+            return Length::Value(length);
         }
         if b < b'0' {
-            return 10000000;
+            return Length::Bad;
         }
         if b'9' < b {
-            return 10000000;
+            return Length::Bad;
         }
         if 10000 <= length {
-            return 10000000;
+            return Length::Bad;
         }
         length = length * 10 + (b - b'0') as usize;
         digits += 1;
     }
-    10000000
+    Length::Bad
 }
 
 // Reads one frame to the start of the room.
 pub fn read(room: &mut [u8]) -> Frame
-    ensures { λ r. ⌜ FrameWithin (now (room .exit)) r ⌝ }
+    ensures { λ r. ⌜ FrameLeft (now (room .entry)) (now (room .exit)) r ⌝ }
 {
     let Byte::Value(b) = read_byte() else {
         return Frame::End;
@@ -64,7 +69,9 @@ pub fn read(room: &mut [u8]) -> Frame
     if b != b'#' {
         return Frame::Malformed;
     }
-    let length = read_length();
+    let Length::Value(length) = read_length() else {
+        return Frame::Malformed;
+    };
     if room.len() < length {
         return Frame::Malformed;
     }

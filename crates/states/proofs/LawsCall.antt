@@ -1,6 +1,6 @@
 -- From what the callees promise to the text of a sheet's entry states, and from that to the outcome of a call.
 use mathlib.Core.Path.{_≡_, refl, sym, ap, _∙_, subst}
-use mathlib.Core.Bool.{true, false, true≢false}
+use mathlib.Core.Bool.{Bool, true, false, cond, true≢false}
 use mathlib.Core.List.{List, [], _∷_}
 use Prim.Native.Nat.{ℕ, _≤_}
 use native.Mathlib.Omega.{arith}
@@ -10,7 +10,7 @@ use Rattle.paper.specs.Text.{Bytes, Name}
 use Rattle.paper.specs.Sheet.{Sheet}
 use Rattle.paper.specs.Limits.{report-size}
 use Rattle.paper.specs.Report.{missing-allocations}
-use Rattle.paper.specs.Answer.{Lent, too-short, laid, zeros}
+use Rattle.paper.specs.Answer.{answer, written, Lent, too-short, laid, zeros}
 use Rattle.paper.specs.declared.Rule.{Rule}
 use Rattle.sheet.specs.Loaded.{blocks-word, sheet-of, Loaded}
 use Rattle.sheet.specs.Reading.{Load}
@@ -23,11 +23,12 @@ use Rattle.report.specs.Missing.{names-lines, step-lines, missing-lines, Missin
 use Rattle.report.specs.declared.Missing.{Missing}
 use Rattle.report.specs.declared.Missing.the-variants.{Found}
 use Rattle.report.proofs.LawsReported.{wrote-laid}
-use Rattle.checker.specs.Checked.{lent}
+use Rattle.checker.specs.Checked.{lent, text-of, lent-behind, Texted}
 use Rattle.checker.proofs.Laws.{loads-sheet, refuses-sheet}
 use Rattle.checker.proofs.Texts.{laid-length}
 use Rattle.states.specs.EntryStates.{blocks-text, unless-missing, states-after, entry-states}
-use Rattle.states.specs.Stated.{longest-text, outcome-of, outcome, Stated, Written, Entered}
+use Rattle.states.specs.Stated.{longest-text, Outcome, outcome, Stated, part-text, Written, Entered}
+use Rattle.states.specs.declared.Part.the-variants.{Answer}
 
 -- ---- the text of a sheet
 
@@ -84,9 +85,9 @@ pub written-none : {text : Bytes} {out words queue words′ : List ℕ} → text
 unfolding laid
 written-none e w = rw e (record { length-is = refl; out-is = refl; same-words = w; same-queue = refl; most = omega arith })
 
-pub written : {text xs : Bytes} {out words queue out′ words′ queue′ : List ℕ} {r : ℕ} → text ≡ xs → Wrote out 0 xs out′ r → r ≤ longest-text → report-size ≤ length out
+pub written-text : {text xs : Bytes} {out words queue out′ words′ queue′ : List ℕ} {r : ℕ} → text ≡ xs → Wrote out 0 xs out′ r → r ≤ longest-text → report-size ≤ length out
     → length words′ ≡ length words → length queue′ ≡ length queue → Written text out words queue out′ words′ queue′ r
-written e w h fits same-words same-queue = rw e (record {
+written-text e w h fits same-words same-queue = rw e (record {
   length-is = omega (arith, w .next);
   out-is = wrote-laid w (omega arith);
   same-words = same-words;
@@ -96,16 +97,28 @@ written e w h fits same-words same-queue = rw e (record {
 
 -- ---- the outcome
 
-pub short-outcome : (rule : Rule) (sheet : Bytes) (before : Lent) → too-short before ≡ true → Stated rule sheet before before 0
+pub short-outcome : (text : Bytes) (before : Lent) → too-short before ≡ true → Stated text before before 0
 unfolding outcome
-short-outcome rule sheet before e = record { whole = rw e; fits = omega arith; most = omega arith }
+short-outcome text before e = record { whole = rw e; fits = omega arith }
 
-pub stated : {rule : Rule} {sheet : Bytes} {out words queue out′ words₁ queue₁ words′ queue′ : List ℕ} {r : ℕ}
-    → Written (entry-states rule sheet) out words queue out′ words₁ queue₁ r → words′ ≡ replicate (length words₁) 0 → queue′ ≡ replicate (length queue₁) 0
-    → too-short (lent out words queue) ≡ false → Stated rule sheet (lent out words queue) (lent out′ words′ queue′) r
-unfolding outcome outcome-of zeros
-stated {rule} {sheet} {out} p w q e = record {
+pub stated : {text : Bytes} {out words queue out′ words₁ queue₁ words′ queue′ : List ℕ} {r : ℕ}
+    → Written text out words queue out′ words₁ queue₁ r → words′ ≡ replicate (length words₁) 0 → queue′ ≡ replicate (length queue₁) 0
+    → too-short (lent out words queue) ≡ false → Stated text (lent out words queue) (lent out′ words′ queue′) r
+unfolding outcome zeros
+stated {text} {out} p w q e = record {
   whole = rw (e, w, q, p .same-words, p .same-queue, p .out-is, p .length-is);
-  fits = rw (p .length-is, p .out-is) (laid-length (entry-states rule sheet) out);
-  most = p .most;
+  fits = rw (p .length-is, p .out-is) (laid-length text out);
+}
+
+-- what a program writes of an answer is stated the same way
+choice : (text : Bytes) (before after : Lent) (short : Bool)
+    → _≡_ {A = Outcome} (record { text-length = length (cond short [] text); lent = cond short before after }) (cond short (record { text-length = 0; lent = before }) (record { text-length = length text; lent = after }))
+choice text before after true = refl
+choice text before after false = refl
+
+pub answer-stated : {sheet : Bytes} {before after : Lent} {r : ℕ} (rule : Rule) → Texted rule sheet before after r → Stated (part-text Answer rule sheet) before after r
+unfolding part-text text-of lent-behind outcome
+answer-stated {sheet} {before} rule t = record {
+  whole = rw (t .length-is, t .lent-is) (choice (written (answer rule sheet)) before _ (too-short before));
+  fits = t .fits;
 }

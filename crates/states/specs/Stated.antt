@@ -8,7 +8,7 @@ use Rattle.lists.specs.Region.{region}
 use Rattle.paper.specs.Text.{Bytes, tab, digits}
 use Rattle.paper.specs.Limits.{max-regs, max-slots, max-blocks}
 use Rattle.paper.specs.Runs.{analysis, checked-from}
-use Rattle.paper.specs.Answer.{Lent, too-short, laid, zeros}
+use Rattle.paper.specs.Answer.{answer, written, Lent, too-short, laid, zeros}
 use Rattle.paper.specs.declared.Rule.{Rule}
 use Rattle.cells.specs.Packed.{cell-of}
 use Rattle.cells.specs.States.{stored-state}
@@ -16,6 +16,8 @@ use Rattle.sheet.specs.Loaded.{regs-word, slots-word, blocks-word, sheet-of, Lo
 use Rattle.runs.specs.Layout.{state-at, mark-at, run-words}
 use Rattle.runs.specs.Table.{mark-of}
 use Rattle.states.specs.EntryStates.{cell-text, letter-D, entry-states}
+use Rattle.states.specs.declared.Part.{Part}
+use Rattle.states.specs.declared.Part.the-variants.{Answer, States}
 
 -- how long the text can get: the longest field is `v255*` behind its tab, and 32,784 bytes, the report's size, have room for all
 abbrev pub longest-field : ℕ
@@ -34,17 +36,20 @@ pub record Outcome : Type 0 where
 
 -- buffers that `check` would refuse are left as they are; else the text stands at the start of the first, later bytes keep their
 -- values, and the scratch is all zero
-unfoldable pub outcome-of : Bytes → Lent → Outcome
-outcome-of text lent = record { text-length = length text; lent = record { report = laid text (lent .report); words = zeros (lent .words); queue = zeros (lent .queue) } }
+unfoldable pub outcome : Bytes → Lent → Outcome
+outcome text before =
+    cond (too-short before) (record { text-length = 0; lent = before })
+    (record { text-length = length text; lent = record { report = laid text (before .report); words = zeros (before .words); queue = zeros (before .queue) } })
 
-unfoldable pub outcome : Rule → Bytes → Lent → Outcome
-outcome rule sheet lent = cond (too-short lent) (record { text-length = 0; lent = lent }) (outcome-of (entry-states rule sheet) lent)
-
--- the whole of a call
-pub record Stated (rule : Rule) (sheet : Bytes) (before after : Lent) (r : ℕ) : Type 0 where
-  pub whole : _≡_ {A = Outcome} (record { text-length = r; lent = after }) (outcome rule sheet before)
+-- the whole of a call that leaves a text
+pub record Stated (text : Bytes) (before after : Lent) (r : ℕ) : Type 0 where
+  pub whole : _≡_ {A = Outcome} (record { text-length = r; lent = after }) (outcome text before)
   pub fits : r ≤ length (after .report)
-  pub most : r ≤ longest-text
+
+-- what is compared of a sheet
+unfoldable pub part-text : Part → Rule → Bytes → Bytes
+part-text Answer rule sheet = written (answer rule sheet)
+part-text States rule sheet = entry-states rule sheet
 
 -- ---- the parts
 

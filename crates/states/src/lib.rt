@@ -14,7 +14,7 @@ ghost use Rattle.sheet.specs.Loaded.{blocks-word, sheet-of};
 ghost use Rattle.runs.specs.Table.{mark-of};
 ghost use Rattle.checker.specs.Checked.{lent};
 ghost use Rattle.states.specs.EntryStates as text;
-ghost use Rattle.states.specs.Stated.{Stated, Written, Entered, row-text, head-text, longest-field, longest-line, longest-text};
+ghost use Rattle.states.specs.Stated.{Stated, part-text, Written, Entered, row-text, head-text, longest-field, longest-line, longest-text};
 use checker::QUEUE_SIZE;
 use checker::REPORT_SIZE;
 use checker::WORDS_SIZE;
@@ -24,6 +24,12 @@ use runs::MARK_BASE;
 use sheet::Loading;
 use steps::STATE_BASE;
 use steps::STATE_WORDS;
+
+// What is compared of a sheet: what a program writes of its answer, or its entry states.
+pub enum Part {
+    Answer,
+    States,
+}
 
 const REGS_WORD: usize = 0;
 
@@ -159,7 +165,7 @@ pub fn entry_states(
     words: &mut [u16],
     queue: &mut [u8],
 ) -> usize
-    ensures { λ r. ⌜ Stated rule (now (sheet .entry)) (lent (now (out .entry)) (now (words .entry)) (now (queue .entry))) (lent (now (out .exit)) (now (words .exit)) (now (queue .exit))) r ⌝ }
+    ensures { λ r. ⌜ Stated (text.entry-states rule (now (sheet .entry))) (lent (now (out .entry)) (now (words .entry)) (now (queue .entry))) (lent (now (out .exit)) (now (words .exit)) (now (queue .exit))) r × (r ≤ longest-text) ⌝ }
 {
     if out.len() < REPORT_SIZE {
         return 0;
@@ -174,4 +180,21 @@ pub fn entry_states(
     scratch::clear_words(words);
     scratch::clear_bytes(queue);
     length
+}
+
+// A part of what is compared, at the start of `out`: its length. Buffers and scratch are left as `entry_states` leaves them.
+pub fn text_of(
+    part: Part,
+    rule: Rule,
+    sheet: &[u8],
+    out: &mut [u8],
+    words: &mut [u16],
+    queue: &mut [u8],
+) -> usize
+    ensures { λ r. ⌜ Stated (part-text part rule (now (sheet .entry))) (lent (now (out .entry)) (now (words .entry)) (now (queue .entry))) (lent (now (out .exit)) (now (words .exit)) (now (queue .exit))) r ⌝ }
+{
+    match part {
+        Part::Answer => checker::answer_text(rule, sheet, out, words, queue),
+        Part::States => entry_states(rule, sheet, out, words, queue),
+    }
 }

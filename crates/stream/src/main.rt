@@ -2,34 +2,21 @@
 // answer, the house answer, the old entry states and the house entry states.
 use frames::Frame;
 use paper::Rule;
+use states::Part;
 
-// The two answers to one sheet; whether both could be written.
-fn write_answers(
+// One part of a sheet's texts under both rules; whether both could be written.
+fn write_part(
+    part: Part,
     sheet: &[u8],
     text: &mut [u8],
     words: &mut [u16; 32768],
     queue: &mut [u8; 16385],
 ) -> bool {
-    let old = checker::answer_text(Rule::Old, sheet, text, words, queue);
+    let old = states::text_of(part, Rule::Old, sheet, text, words, queue);
     if !frames::write(&text[..old]) {
         return false;
     }
-    let house = checker::answer_text(Rule::House, sheet, text, words, queue);
-    frames::write(&text[..house])
-}
-
-// Its entry states under both rules; whether both could be written.
-fn write_states(
-    sheet: &[u8],
-    text: &mut [u8],
-    words: &mut [u16; 32768],
-    queue: &mut [u8; 16385],
-) -> bool {
-    let old = states::entry_states(Rule::Old, sheet, text, words, queue);
-    if !frames::write(&text[..old]) {
-        return false;
-    }
-    let house = states::entry_states(Rule::House, sheet, text, words, queue);
+    let house = states::text_of(part, Rule::House, sheet, text, words, queue);
     frames::write(&text[..house])
 }
 
@@ -40,11 +27,11 @@ fn write_frames(
     words: &mut [u16; 32768],
     queue: &mut [u8; 16385],
 ) -> bool {
-    if !write_answers(sheet, text, words, queue) {
+    if !write_part(Part::Answer, sheet, text, words, queue) {
         os::fail(b"stream: standard output");
         return false;
     }
-    if !write_states(sheet, text, words, queue) {
+    if !write_part(Part::States, sheet, text, words, queue) {
         os::fail(b"stream: standard output");
         return false;
     }

@@ -7,13 +7,13 @@ use Rattle.states.proofs.entry_states.Statement.{statement}
 use Rattle.states.proofs.entry_states.Tie as tie
 
 returns : tie.Need-returns
-returns c = short-outcome _ _ _ (short-report _ _ _ (c .if1 .taken))
+returns c = (short-outcome _ _ (short-report _ _ _ (c .if1 .taken)), omega arith)
 
 returns-2 : tie.Need-returns-2
-returns-2 c = short-outcome _ _ _ (short-words _ _ _ (c .if2 .taken))
+returns-2 c = (short-outcome _ _ (short-words _ _ _ (c .if2 .taken)), omega arith)
 
 returns-3 : tie.Need-returns-3
-returns-3 c = short-outcome _ _ _ (short-queue _ _ _ (c .if3 .taken))
+returns-3 c = (short-outcome _ _ (short-queue _ _ _ (c .if3 .taken)), omega arith)
 
 write-states-requires : tie.Need-write-states-requires
 write-states-requires c κs = search needs
@@ -34,7 +34,7 @@ same-length-3 : tie.Need-same-length-3
 same-length-3 c = search needs
 
 returns-4 : tie.Need-returns-4
-returns-4 c = stated (c .before .before .before .before .before .before .before .before .before .before .before .before .before .before .write-states .ensures) (c .before .before .before .before .before .before .clear-words .ensures) (c .before .before .clear-bytes .ensures) (long-enough _ _ _ (omega arith) (omega arith) (omega arith))
+returns-4 c = (stated (c .before .before .before .before .before .before .before .before .before .before .before .before .before .before .write-states .ensures) (c .before .before .before .before .before .before .clear-words .ensures) (c .before .before .clear-bytes .ensures) (long-enough _ _ _ (omega arith) (omega arith) (omega arith)), c .before .before .before .before .before .before .before .before .before .before .before .before .before .before .write-states .ensures .most)
 
 pub entry-states-spec : {M : Type 1} → statement M
 entry-states-spec =

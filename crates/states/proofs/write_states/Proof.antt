@@ -2,7 +2,7 @@
 -- from the analysed words.
 use native.Mathlib.Omega.{arith}
 use Rattle.checker.proofs.Laws.{loaded-words, nothing-missing}
-use Rattle.states.proofs.LawsCall.{refused-none, text-full, text-missing, entered, same-text, written-none, written}
+use Rattle.states.proofs.LawsCall.{refused-none, text-full, text-missing, entered, same-text, written-none, written-text}
 use borrow.Author.Needs.{needs}
 use Rattle.states.proofs.write_states.Statement.{statement}
 use Rattle.states.proofs.write_states.Tie as tie
@@ -67,7 +67,7 @@ returns-3 c = let w = c .before .before in
     let l = f .before .before .before .before .before .before .load .ensures in
     let loads = loaded-words l (f .before .before .enum-told .given .1) in
     let full = nothing-missing (f .find-missing .ensures) (a .before .before .before .enum-told3 .given .1) in
-    written (text-full (f .before .before .before .before .before .before .before .before .before .before .before .before .args .rule) l (f .before .before .enum-told .given .1) full) (rw (← same-text loads (a .analyze .ensures)) (w .write-blocks .ensures .0)) (w .write-blocks .ensures .1) (f .before .before .before .before .before .before .before .before .before .before .before .before .pre .0) (omega (arith, l .same-length, a .analyze .ensures .kept .same-length)) (a .analyze .ensures .same-length)
+    written-text (text-full (f .before .before .before .before .before .before .before .before .before .before .before .before .args .rule) l (f .before .before .enum-told .given .1) full) (rw (← same-text loads (a .analyze .ensures)) (w .write-blocks .ensures .0)) (w .write-blocks .ensures .1) (f .before .before .before .before .before .before .before .before .before .before .before .before .pre .0) (omega (arith, l .same-length, a .analyze .ensures .kept .same-length)) (a .analyze .ensures .same-length)
 
 pub write-states-spec : {M : Type 1} → statement M
 write-states-spec =

@@ -1,12 +1,12 @@
--- `stream::write_answers` is safe: the text is the part of its buffer that was written.
+-- `stream::write_part` is safe: the text is the part of its buffer that was written.
 use native.Mathlib.Omega.{arith}
 use lib.ListN.{length-take}
 use borrow.Author.Needs.{needs}
-use Rattle.stream.proofs.write_answers.Statement.{statement}
-use Rattle.stream.proofs.write_answers.Tie as tie
+use Rattle.stream.proofs.write_part.Statement.{statement}
+use Rattle.stream.proofs.write_part.Tie as tie
 
-answer-text-requires : tie.Need-answer-text-requires
-answer-text-requires c κs = search needs
+text-of-requires : tie.Need-text-of-requires
+text-of-requires c κs = search needs
 
 slice-reshare-prefix-write : tie.Need-slice-reshare-prefix-write
 slice-reshare-prefix-write c = search needs
@@ -23,8 +23,8 @@ same-length c = search needs
 returns : tie.Need-returns
 returns c = search needs
 
-answer-text-requires-2 : tie.Need-answer-text-requires-2
-answer-text-requires-2 c κs = search needs
+text-of-requires-2 : tie.Need-text-of-requires-2
+text-of-requires-2 c κs = search needs
 
 slice-reshare-prefix-write-2 : tie.Need-slice-reshare-prefix-write-2
 slice-reshare-prefix-write-2 c = search needs
@@ -41,17 +41,17 @@ same-length-2 c = search needs
 returns-2 : tie.Need-returns-2
 returns-2 c = search needs
 
-pub write-answers-spec : {M : Type 1} → statement M
-write-answers-spec =
+pub write-part-spec : {M : Type 1} → statement M
+write-part-spec =
     tie.close
     (tie.spec
-    answer-text-requires
+    text-of-requires
     slice-reshare-prefix-write
     slice-aggregate-write
     write-requires
     same-length
     returns
-    answer-text-requires-2
+    text-of-requires-2
     slice-reshare-prefix-write-2
     slice-aggregate-write-2
     write-requires-2

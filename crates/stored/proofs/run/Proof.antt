@@ -1,15 +1,15 @@
--- `sheets::main` is safe: the lent buffers keep their lengths from sheet to sheet.
+-- `stored::run` is safe: the lent buffers keep their lengths from sheet to sheet.
 use mathlib.Core.Path.{_≡_}
 use lib.ListN.{length}
 use borrow.Author.Needs.{needs}
-use Rattle.sheets.proofs.main.Statement.{statement}
-use Rattle.sheets.proofs.main.Tie as tie
+use Rattle.stored.proofs.run.Statement.{statement}
+use Rattle.stored.proofs.run.Tie as tie
 
 abbrev Inv-loop : tie.InvT-loop
-Inv-loop sheet₀ stored₀ text₀ words₀ queue₀ tally₀ turns₀ sheet stored text words queue tally turns = (length sheet ≡ 70000) × (length stored ≡ 70000) × (length text ≡ 32784)
+Inv-loop list sheet₀ stored₀ text₀ words₀ queue₀ tally₀ turns₀ sheet stored text words queue tally turns = (length sheet ≡ 70000) × (length stored ≡ 70000) × (length text ≡ 32784)
 
 abbrev μ-loop : tie.MeasureT-loop
-μ-loop sheet₀ stored₀ text₀ words₀ queue₀ tally₀ turns₀ sheet stored text words queue tally turns = turns
+μ-loop list sheet₀ stored₀ text₀ words₀ queue₀ tally₀ turns₀ sheet stored text words queue tally turns = turns
 
 loop-holds : tie.Need-loop-holds Inv-loop μ-loop
 loop-holds c = search needs
@@ -44,8 +44,8 @@ say-requires c κs = search needs
 returns : tie.Need-returns Inv-loop μ-loop
 returns c = search needs
 
-pub main-spec : {M : Type 1} → statement M
-main-spec =
+pub run-spec : {M : Type 1} → statement M
+run-spec =
     tie.close
     (tie.spec
     Inv-loop

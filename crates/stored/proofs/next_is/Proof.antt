@@ -1,9 +1,9 @@
--- `sheets::next_agrees` is safe: the stored answer is the part of its buffer that was read.
+-- `stored::next_is` is safe: the stored text is the part of its buffer that was read.
 use native.Mathlib.Omega.{arith}
 use lib.ListN.{length-take}
 use borrow.Author.Needs.{needs}
-use Rattle.sheets.proofs.next_agrees.Statement.{statement}
-use Rattle.sheets.proofs.next_agrees.Tie as tie
+use Rattle.stored.proofs.next_is.Statement.{statement}
+use Rattle.stored.proofs.next_is.Tie as tie
 
 read-requires : tie.Need-read-requires
 read-requires c κs = search needs
@@ -11,14 +11,14 @@ read-requires c κs = search needs
 enum-known-frame : tie.Need-enum-known-frame
 enum-known-frame c = search needs
 
-slice-reshare-prefix-agrees : tie.Need-slice-reshare-prefix-agrees
-slice-reshare-prefix-agrees c = omega (arith, rw (c .before .frame .given .1) at (c .before .before .before .before .before .read .ensures))
+slice-reshare-prefix-same : tie.Need-slice-reshare-prefix-same
+slice-reshare-prefix-same c = omega (arith, rw (c .before .frame .given .1) at (c .before .before .before .before .before .read .ensures))
 
-slice-aggregate-agrees : tie.Need-slice-aggregate-agrees
-slice-aggregate-agrees c = simp length-take (omega (arith, rw (c .before .before .frame .given .1) at (c .before .before .before .before .before .before .read .ensures)))
+slice-aggregate-same : tie.Need-slice-aggregate-same
+slice-aggregate-same c = simp length-take (omega (arith, rw (c .before .before .frame .given .1) at (c .before .before .before .before .before .before .read .ensures)))
 
-agrees-requires : tie.Need-agrees-requires
-agrees-requires c κs = search needs
+same-requires : tie.Need-same-requires
+same-requires c κs = search needs
 
 enum-told : tie.Need-enum-told
 enum-told c = search needs
@@ -44,15 +44,15 @@ same-length-3 c = search needs
 returns-3 : tie.Need-returns-3
 returns-3 c = search needs
 
-pub next-agrees-spec : {M : Type 1} → statement M
-next-agrees-spec =
+pub next-is-spec : {M : Type 1} → statement M
+next-is-spec =
     tie.close
     (tie.spec
     read-requires
     enum-known-frame
-    slice-reshare-prefix-agrees
-    slice-aggregate-agrees
-    agrees-requires
+    slice-reshare-prefix-same
+    slice-aggregate-same
+    same-requires
     enum-told
     enum-told-2
     same-length
