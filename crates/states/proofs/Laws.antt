@@ -26,7 +26,7 @@ use Rattle.sheet.specs.Loaded.{regs-word, slots-word, blocks-word, sheet-of}
 use Rattle.runs.specs.Layout.{state-at, mark-at, run-words}
 use Rattle.runs.specs.Table.{mark-of}
 use Rattle.states.specs.EntryStates.{mark-text, cell-text, cell-texts, visited-text, letter-D, block-text, blocks-text}
-use Rattle.states.specs.Stated.{Entered, tabbed, row-text, head-text}
+use Rattle.states.specs.Stated.{HoldsStates, tabbed, row-text, head-text}
 
 -- ---- fields behind tabs
 
@@ -123,7 +123,7 @@ line-spelled b visited fs =
     ap (λ (t : Bytes). letter-D ∷ t)
     (behind-tabbed (digits b ∷ (visited ∷ []) ∷ fs) ∙ ap (λ (t : Bytes). t ++ (line-feed ∷ [])) (tabbed-append (digits b ∷ (visited ∷ []) ∷ []) fs))
 
-module _ {rule : Rule} {words : List ℕ} {b : ℕ} (E : Entered rule words) (h : b < getD words blocks-word 0) where
+module _ {rule : Rule} {words : List ℕ} {b : ℕ} (E : HoldsStates rule words) (h : b < getD words blocks-word 0) where
   -- the block's words lie in the lent words
   pub block-room : (b < max-blocks) × (getD words regs-word 0 ≤ max-regs) × (getD words slots-word 0 ≤ max-slots) × (run-words ≤ length words)
   block-room = (omega (arith, E .loaded .bounds .blocks), E .loaded .bounds .regs, E .loaded .bounds .slots, E .room)

@@ -27,7 +27,7 @@ use Rattle.checker.specs.Checked.{lent, text-of, lent-behind, Texted}
 use Rattle.checker.proofs.Laws.{loads-sheet, refuses-sheet}
 use Rattle.checker.proofs.Texts.{laid-length}
 use Rattle.states.specs.EntryStates.{blocks-text, unless-missing, states-after, entry-states}
-use Rattle.states.specs.Stated.{longest-text, Outcome, outcome, Stated, part-text, Written, Entered}
+use Rattle.states.specs.Stated.{longest-text, Outcome, outcome, Stated, part-text, Written, HoldsStates}
 use Rattle.states.specs.declared.Part.the-variants.{Answer}
 
 -- ---- the text of a sheet
@@ -68,8 +68,8 @@ module _ {rule : Rule} {words queue words′ queue′ : List ℕ} (loads : Loade
   same-blocks : getD words′ blocks-word 0 ≡ getD words blocks-word 0
   same-blocks = a .kept .below blocks-word (omega arith)
 
-  pub entered : run-words ≤ length words → Entered rule words′
-  entered room = record {
+  pub holds-states : run-words ≤ length words → HoldsStates rule words′
+  holds-states room = record {
     loaded = analysed-loaded loads a;
     room = omega (arith, a .kept .same-length);
     states = λ b h. rw (analysed-sheet loads a) (analysed-state loads a b (omega (arith, same-blocks)));

@@ -19,12 +19,16 @@ use Rattle.states.specs.EntryStates.{cell-text, letter-D, entry-states}
 use Rattle.states.specs.declared.Part.{Part}
 use Rattle.states.specs.declared.Part.the-variants.{Answer, States}
 
--- how long the text can get: the longest field is `v255*` behind its tab, and 32,784 bytes, the report's size, have room for all
-abbrev pub longest-field : ℕ
-longest-field = 6
+-- how long the text can get: the longest cell is `v255*`, the longest head `D`, two digits and a mark with their tabs. The
+-- report's 32,784 bytes have room for all.
+abbrev pub longest-cell : ℕ
+longest-cell = 5
+
+abbrev pub longest-head : ℕ
+longest-head = 6
 
 abbrev pub longest-line : ℕ
-longest-line = 6 + longest-field * (max-regs + max-slots) + 1
+longest-line = longest-head + (1 + longest-cell) * (max-regs + max-slots) + 1
 
 abbrev pub longest-text : ℕ
 longest-text = longest-line * max-blocks
@@ -62,7 +66,7 @@ pub record Written (text : Bytes) (out words queue out′ words′ queue′ : Li
   pub most : r ≤ longest-text
 
 -- the words hold a sheet, and each block's state and mark behind the analysis
-pub record Entered (rule : Rule) (words : List ℕ) : Type 0 where
+pub record HoldsStates (rule : Rule) (words : List ℕ) : Type 0 where
   pub loaded : Loaded words
   pub room : run-words ≤ length words
   pub states : (b : ℕ) → b < getD words blocks-word 0

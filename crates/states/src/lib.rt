@@ -14,7 +14,7 @@ ghost use Rattle.sheet.specs.Loaded.{blocks-word, sheet-of};
 ghost use Rattle.runs.specs.Table.{mark-of};
 ghost use Rattle.checker.specs.Checked.{lent};
 ghost use Rattle.states.specs.EntryStates as text;
-ghost use Rattle.states.specs.Stated.{Stated, part-text, Written, Entered, row-text, head-text, longest-field, longest-line, longest-text};
+ghost use Rattle.states.specs.Stated.{Stated, part-text, Written, HoldsStates, row-text, head-text, longest-cell, longest-head, longest-line, longest-text};
 use checker::QUEUE_SIZE;
 use checker::REPORT_SIZE;
 use checker::WORDS_SIZE;
@@ -42,8 +42,8 @@ const ROW_WORDS: usize = 32;
 
 // A name, with `*` behind it if marked.
 fn write_named(out: &mut [u8], at: usize, cell: u16) -> usize
-    requires { ⌜ at + 5 ≤ length (now out) ⌝ }
-    ensures { λ r. ⌜ Wrote (now (out .entry)) at (text.cell-text (paper.named (name-of-word cell) (marked cell))) (now (out .exit)) r × (r ≤ at + 5) ⌝ }
+    requires { ⌜ at + longest-cell ≤ length (now out) ⌝ }
+    ensures { λ r. ⌜ Wrote (now (out .entry)) at (text.cell-text (paper.named (name-of-word cell) (marked cell))) (now (out .exit)) r × (r ≤ at + longest-cell) ⌝ }
 {
     let end = report::write_word(out, at, cell);
     if cell / 512 % 2 == 1 {
@@ -54,8 +54,8 @@ fn write_named(out: &mut [u8], at: usize, cell: u16) -> usize
 
 // A tab and a cell: `.` Absent, `?` Unknown, `!` Conflicted, or the name.
 fn write_cell(out: &mut [u8], at: usize, cell: u16) -> usize
-    requires { ⌜ at + longest-field ≤ length (now out) ⌝ }
-    ensures { λ r. ⌜ Wrote (now (out .entry)) at (tab ∷ text.cell-text (cell-of cell)) (now (out .exit)) r × (r ≤ at + longest-field) ⌝ }
+    requires { ⌜ at + 1 + longest-cell ≤ length (now out) ⌝ }
+    ensures { λ r. ⌜ Wrote (now (out .entry)) at (tab ∷ text.cell-text (cell-of cell)) (now (out .exit)) r × (r ≤ at + 1 + longest-cell) ⌝ }
 {
     let next = fields::write_byte(out, at, b'\t');
     let kind = cell / 1024 % 4;
@@ -69,8 +69,8 @@ fn write_cell(out: &mut [u8], at: usize, cell: u16) -> usize
 
 // The first n cells of the row that stands at `from`.
 fn write_row(out: &mut [u8], at: usize, words: &[u16], from: usize, n: usize) -> usize
-    requires { ⌜ (from + n ≤ length (now words)) × (at + longest-field * n ≤ length (now out)) ⌝ }
-    ensures { λ r. ⌜ Wrote (now (out .entry)) at (row-text from n (now (words .entry))) (now (out .exit)) r × (r ≤ at + longest-field * n) ⌝ }
+    requires { ⌜ (from + n ≤ length (now words)) × (at + (1 + longest-cell) * n ≤ length (now out)) ⌝ }
+    ensures { λ r. ⌜ Wrote (now (out .entry)) at (row-text from n (now (words .entry))) (now (out .exit)) r × (r ≤ at + (1 + longest-cell) * n) ⌝ }
 {
     let mut next = at;
     let mut i = 0;
@@ -93,8 +93,8 @@ fn visited(rule: Rule, mark: u16) -> u8
 
 // `D`, the block, and whether it is visited.
 fn write_head(out: &mut [u8], at: usize, b: usize, mark: u8) -> usize
-    requires { ⌜ (b < max-blocks) × (at + 6 ≤ length (now out)) ⌝ }
-    ensures { λ r. ⌜ Wrote (now (out .entry)) at (head-text b mark) (now (out .exit)) r × (r ≤ at + 6) ⌝ }
+    requires { ⌜ (b < max-blocks) × (at + longest-head ≤ length (now out)) ⌝ }
+    ensures { λ r. ⌜ Wrote (now (out .entry)) at (head-text b mark) (now (out .exit)) r × (r ≤ at + longest-head) ⌝ }
 {
     let a = fields::write_byte(out, at, b'D');
     let c = fields::write_before_number(out, a, b'\t', b as u32);
@@ -104,7 +104,7 @@ fn write_head(out: &mut [u8], at: usize, b: usize, mark: u8) -> usize
 
 // The line of block b.
 fn write_block(rule: Rule, words: &[u16], out: &mut [u8], at: usize, b: usize) -> usize
-    requires { ⌜ Entered rule (now words) × (b < getD (now words) blocks-word 0) × (at + longest-line ≤ length (now out)) ⌝ }
+    requires { ⌜ HoldsStates rule (now words) × (b < getD (now words) blocks-word 0) × (at + longest-line ≤ length (now out)) ⌝ }
     ensures { λ r. ⌜ Wrote (now (out .entry)) at (text.block-text rule (sheet-of (now (words .entry))) b) (now (out .exit)) r × (r ≤ at + longest-line) ⌝ }
 {
     let regs = words[REGS_WORD] as usize;
@@ -120,7 +120,7 @@ fn write_block(rule: Rule, words: &[u16], out: &mut [u8], at: usize, b: usize) -
 
 // The lines of all blocks.
 fn write_blocks(rule: Rule, words: &[u16], out: &mut [u8]) -> usize
-    requires { ⌜ Entered rule (now words) × (report-size ≤ length (now out)) ⌝ }
+    requires { ⌜ HoldsStates rule (now words) × (report-size ≤ length (now out)) ⌝ }
     ensures { λ r. ⌜ Wrote (now (out .entry)) 0 (text.blocks-text rule (sheet-of (now (words .entry))) 0 (getD (now (words .entry)) blocks-word 0)) (now (out .exit)) r × (r ≤ longest-text) ⌝ }
 {
     let blocks = words[BLOCKS_WORD] as usize;

@@ -2,7 +2,7 @@
 -- from the analysed words.
 use native.Mathlib.Omega.{arith}
 use Rattle.checker.proofs.Laws.{loaded-words, nothing-missing}
-use Rattle.states.proofs.LawsCall.{refused-none, text-full, text-missing, entered, same-text, written-none, written-text}
+use Rattle.states.proofs.LawsCall.{refused-none, text-full, text-missing, holds-states, same-text, written-none, written-text}
 use borrow.Author.Needs.{needs}
 use Rattle.states.proofs.write_states.Statement.{statement}
 use Rattle.states.proofs.write_states.Tie as tie
@@ -49,7 +49,7 @@ write-blocks-requires : tie.Need-write-blocks-requires
 write-blocks-requires c κs = let a = c .before .before .before .before .before .before in
     let f = a .before .before .before .before .before in
     let l = f .before .before .before .before .before .before .load .ensures in
-    (entered (loaded-words l (f .before .before .enum-told .given .1)) (a .analyze .ensures) (omega (arith, l .same-length)), omega arith)
+    (holds-states (loaded-words l (f .before .before .enum-told .given .1)) (a .analyze .ensures) (omega (arith, l .same-length)), omega arith)
 
 same-length-3 : tie.Need-same-length-3
 same-length-3 c = search needs
