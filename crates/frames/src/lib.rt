@@ -1,5 +1,10 @@
 // Frames on standard input and output: a line `#` and a decimal length of at most five digits, then that many bytes.
-ghost use Rattle.frames.specs.Frame.{LengthWithin, FrameLeft};
+ghost use Prim.Native.Nat.{_≤_};
+ghost use lib.ListN.{length};
+ghost use Rattle.lists.specs.Sets.{Wrote};
+ghost use Rattle.frames.specs.Frame.{longest-frame, longest-head, frame-head, LengthWithin, FrameLeft};
+
+const LONGEST_FRAME: usize = 99999;
 
 // A frame was read, of so many bytes; the input ended; or what came is no frame.
 pub enum Frame {
@@ -82,15 +87,23 @@ pub fn read(room: &mut [u8]) -> Frame
     Frame::Read(length)
 }
 
-// Writes a text as a frame; whether all of it could be written.
+// The first line of a frame of n bytes, at the start of `head`: its length.
+fn write_head(head: &mut [u8], n: usize) -> usize
+    requires { ⌜ (n ≤ longest-frame) × (longest-head ≤ length (now head)) ⌝ }
+    ensures { λ r. ⌜ Wrote (now (head .entry)) 0 (frame-head n) (now (head .exit)) r × (r ≤ longest-head) ⌝ }
+{
+    let end = fields::write_before_number(head, 0, b'#', n as u32);
+    fields::write_byte(head, end, b'\n')
+}
+
+// Writes a text of at most 99,999 bytes as a frame; whether all of it could be written.
 pub fn write(text: &[u8]) -> bool {
-    if !io::write_all(libc::STDOUT_FILENO, b"#") {
+    if LONGEST_FRAME < text.len() {
         return false;
     }
-    if !io::print_decimal(libc::STDOUT_FILENO, text.len() as u64) {
-        return false;
-    }
-    if !io::write_all(libc::STDOUT_FILENO, b"\n") {
+    let mut head = [0u8; 7];
+    let end = write_head(&mut head, text.len());
+    if !io::write_all(libc::STDOUT_FILENO, &head[..end]) {
         return false;
     }
     io::write_all(libc::STDOUT_FILENO, text)
