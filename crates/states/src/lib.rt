@@ -87,7 +87,7 @@ fn visited(rule: Rule, mark: u16) -> u8
 {
     match rule {
         Rule::Old => b'-',
-        Rule::House => { if mark == 0 { b'0' } else { b'1' } }
+        Rule::House => if mark == 0 { b'0' } else { b'1' },
     }
 }
 
