@@ -19,7 +19,7 @@ use Rattle.paper.specs.declared.Rule.{Rule}
 use Rattle.paper.specs.declared.Answer.{Answer}
 use Rattle.paper.specs.declared.Answer.the-variants.{Accepted, Faulty, Refused}
 use Rattle.report.specs.Reported.{wrote-laid}
-use Rattle.checker.specs.Checked.{lent, refusal-text, Checked, text-of, lent-behind, Texted}
+use Rattle.checker.specs.Checked.{lent, refusal-text, AnswerWithin, Checked, text-of, lent-behind, Texted}
 use Rattle.checker.proofs.Refused.{read-bounded}
 
 pub digits-short : (n : ℕ) → n ≤ 65537 → length (digits n) ≤ 5
@@ -39,7 +39,7 @@ unfolding refusal-text written behind-tabs
 refusal-length number line h k =
     omega (arith, length-append (digits number) (tab ∷ (digits line ++ (line-feed ∷ []))), length-append (digits line) (line-feed ∷ []), digits-short number (omega arith), digits-short line k)
 
-laid-length : (text report : List ℕ) → length text ≤ length (laid text report)
+pub laid-length : (text report : List ℕ) → length text ≤ length (laid text report)
 unfolding laid
 laid-length text report = omega (arith, length-append text (drop (length text) report))
 

@@ -1,7 +1,10 @@
-// Frames on standard input and output: a line `#` and a decimal length, then that many bytes.
+// Frames on standard input and output: a line `#` and a decimal length of at most five digits, then that many bytes.
 ghost use Prim.Native.Nat.{_≤_};
 ghost use lib.ListN.{length};
-ghost use Rattle.frames.specs.Frame.{FrameWithin};
+ghost use Rattle.lists.specs.Sets.{Wrote};
+ghost use Rattle.frames.specs.Frame.{longest-frame, longest-head, frame-head, LengthWithin, FrameLeft};
+
+const LONGEST_FRAME: usize = 99999;
 
 // A frame was read, of so many bytes; the input ended; or what came is no frame.
 pub enum Frame {
@@ -15,6 +18,11 @@ enum Byte {
     None,
 }
 
+enum Length {
+    Value(usize),
+    Bad,
+}
+
 fn read_byte() -> Byte {
     let mut one = [0u8; 1];
     let got = libc::read(libc::STDIN_FILENO, &mut one);
@@ -25,38 +33,40 @@ fn read_byte() -> Byte {
     }
 }
 
-// The length that a frame's first line says; 10,000,000 where it is no length.
-fn read_length() -> usize {
+// The length that a frame's first line says.
+fn read_length() -> Length
+    ensures { λ r. ⌜ LengthWithin r ⌝ }
+{
     let mut length: usize = 0;
     let mut digits: usize = 0;
     while digits < 7 {
         let Byte::Value(b) = read_byte() else {
-            return 10000000;
+            return Length::Bad;
         };
         if b == b'\n' {
             if digits == 0 {
-                return 10000000;
+                return Length::Bad;
             }
-            return length;
+            return Length::Value(length);
         }
         if b < b'0' {
-            return 10000000;
+            return Length::Bad;
         }
         if b'9' < b {
-            return 10000000;
+            return Length::Bad;
         }
         if 10000 <= length {
-            return 10000000;
+            return Length::Bad;
         }
         length = length * 10 + (b - b'0') as usize;
         digits += 1;
     }
-    10000000
+    Length::Bad
 }
 
 // Reads one frame to the start of the room.
 pub fn read(room: &mut [u8]) -> Frame
-    ensures { λ r. ⌜ FrameWithin (now (room .exit)) r ⌝ }
+    ensures { λ r. ⌜ FrameLeft (now (room .entry)) (now (room .exit)) r ⌝ }
 {
     let Byte::Value(b) = read_byte() else {
         return Frame::End;
@@ -64,7 +74,9 @@ pub fn read(room: &mut [u8]) -> Frame
     if b != b'#' {
         return Frame::Malformed;
     }
-    let length = read_length();
+    let Length::Value(length) = read_length() else {
+        return Frame::Malformed;
+    };
     if room.len() < length {
         return Frame::Malformed;
     }
@@ -75,15 +87,23 @@ pub fn read(room: &mut [u8]) -> Frame
     Frame::Read(length)
 }
 
-// Writes a text as a frame; whether all of it could be written.
+// The first line of a frame of n bytes, at the start of `head`: its length.
+fn write_head(head: &mut [u8], n: usize) -> usize
+    requires { ⌜ (n ≤ longest-frame) × (longest-head ≤ length (now head)) ⌝ }
+    ensures { λ r. ⌜ Wrote (now (head .entry)) 0 (frame-head n) (now (head .exit)) r × (r ≤ longest-head) ⌝ }
+{
+    let end = fields::write_before_number(head, 0, b'#', n as u32);
+    fields::write_byte(head, end, b'\n')
+}
+
+// Writes a text of at most 99,999 bytes as a frame; whether all of it could be written.
 pub fn write(text: &[u8]) -> bool {
-    if !io::write_all(libc::STDOUT_FILENO, b"#") {
+    if LONGEST_FRAME < text.len() {
         return false;
     }
-    if !io::print_decimal(libc::STDOUT_FILENO, text.len() as u64) {
-        return false;
-    }
-    if !io::write_all(libc::STDOUT_FILENO, b"\n") {
+    let mut head = [0u8; 7];
+    let end = write_head(&mut head, text.len());
+    if !io::write_all(libc::STDOUT_FILENO, &head[..end]) {
         return false;
     }
     io::write_all(libc::STDOUT_FILENO, text)

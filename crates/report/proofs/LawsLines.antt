@@ -108,7 +108,7 @@ unfolding header-text rule-text
 header-short Old count = omega (arith, behind (rule-text Old) (digits count ∷ []), behind (digits count) [], behind-none, five-digits count)
 header-short House count = omega (arith, behind (rule-text House) (digits count ∷ []), behind (digits count) [], behind-none, five-digits count)
 
-name-short : (w : ℕ) → length (name-text (name-of-word w)) ≤ 4
+pub name-short : (w : ℕ) → length (name-text (name-of-word w)) ≤ 4
 unfolding name-text name-of-word
 name-short w =
     by-order (w % 512) 256

@@ -67,7 +67,7 @@ pub enum Missing {
 }
 
 // The name of nine bits.
-fn write_word(report: &mut [u8], at: usize, w: u16) -> usize
+pub fn write_word(report: &mut [u8], at: usize, w: u16) -> usize
     requires { ⌜ at + length (name-text (name-of-word w)) ≤ length (now report) ⌝ }
     ensures { λ r. ⌜ Wrote (now (report .entry)) at (name-text (name-of-word w)) (now (report .exit)) r ⌝ }
 {

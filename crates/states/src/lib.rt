@@ -1,10 +1,26 @@
 // The entry states of a sheet as text, for comparison: for each block `D`, the block, whether it is visited, and its cells.
-ghost use Prim.Native.Nat.{_≤_};
-ghost use lib.ListN.{length};
+ghost use mathlib.Core.Path.{_≡_};
+ghost use mathlib.Core.List.{[], _∷_};
+ghost use mathlib.Core.Option.{Option};
+ghost use Prim.Native.Nat.{_+_, _*_, _≤_, _<_};
+ghost use lib.ListN.{length, getD};
+ghost use Rattle.lists.specs.Sets.{Wrote};
+ghost use Rattle.paper.specs.Text.{tab};
+ghost use Rattle.paper.specs.Limits.{max-blocks, report-size, words-size, queue-size};
+ghost use Rattle.paper.specs.Cells as paper;
+ghost use Rattle.paper.specs.Steps as paper-steps;
+ghost use Rattle.layout.specs.Layout.{blocks-word};
+ghost use Rattle.cells.specs.Packed.{name-of-word, marked, cell-of};
+ghost use Rattle.sheet.specs.Loaded.{sheet-of};
+ghost use Rattle.runs.specs.Table.{mark-of};
+ghost use Rattle.checker.specs.Checked.{lent};
+ghost use Rattle.states.specs.EntryStates as text;
+ghost use Rattle.states.specs.Stated.{Stated, part-text, Written, HoldsStates, row-text, head-text, longest-cell, longest-head, longest-line, longest-text};
 use layout::BLOCKS_WORD;
 use layout::MARK_BASE;
 use layout::QUEUE_SIZE;
 use layout::REGS_WORD;
+use layout::REPORT_SIZE;
 use layout::ROW_WORDS;
 use layout::SLOTS_WORD;
 use layout::STATE_BASE;
@@ -14,152 +30,115 @@ use paper::Rule;
 use report::Missing;
 use sheet::Loading;
 
-// A byte, where there is room.
-fn put(out: &mut [u8], at: usize, b: u8) -> usize
-    requires { ⌜ at ≤ length (now out) ⌝ }
-    ensures { λ r. ⌜ r ≤ length (now (out .exit)) ⌝ }
-{
-    if out.len() <= at {
-        return at;
-    }
-    out[at] = b;
-    at + 1
-}
-
-// One of ten digits.
-fn put_digit(out: &mut [u8], at: usize, n: u16) -> usize
-    requires { ⌜ at ≤ length (now out) ⌝ }
-    ensures { λ r. ⌜ r ≤ length (now (out .exit)) ⌝ }
-{
-    put(out, at, (48 + n % 10) as u8)
-}
-
-// A number below 1,000.
-fn put_number(out: &mut [u8], at: usize, n: u16) -> usize
-    requires { ⌜ at ≤ length (now out) ⌝ }
-    ensures { λ r. ⌜ r ≤ length (now (out .exit)) ⌝ }
-{
-    if n < 10 {
-        return put_digit(out, at, n);
-    }
-    if n < 100 {
-        let next = put_digit(out, at, n / 10);
-        return put_digit(out, next, n);
-    }
-    let first = put_digit(out, at, n / 100);
-    let second = put_digit(out, first, n / 10);
-    put_digit(out, second, n)
+// What is compared of a sheet: what a program writes of its answer, or its entry states.
+pub enum Part {
+    Answer,
+    States,
 }
 
 // A name, with `*` behind it if marked.
-fn put_name(out: &mut [u8], at: usize, cell: u16) -> usize
-    requires { ⌜ at ≤ length (now out) ⌝ }
-    ensures { λ r. ⌜ r ≤ length (now (out .exit)) ⌝ }
+fn write_named(out: &mut [u8], at: usize, cell: u16) -> usize
+    requires { ⌜ at + longest-cell ≤ length (now out) ⌝ }
+    ensures { λ r. ⌜ Wrote (now (out .entry)) at (text.cell-text (paper.named (name-of-word cell) (marked cell))) (now (out .exit)) r × (r ≤ at + longest-cell) ⌝ }
 {
-    let letter = if cell % 512 < 256 { b'v' } else { b'r' };
-    let next = put(out, at, letter);
-    let end = put_number(out, next, cell % 256);
-    if cell / 512 % 2 == 0 {
-        return end;
+    let end = report::write_word(out, at, cell);
+    if cell / 512 % 2 == 1 {
+        return fields::write_byte(out, end, b'*');
     }
-    put(out, end, b'*')
+    end
 }
 
-// `.` Absent, `?` Unknown, `!` Conflicted, or the name.
-fn put_cell(out: &mut [u8], at: usize, cell: u16) -> usize
-    requires { ⌜ at ≤ length (now out) ⌝ }
-    ensures { λ r. ⌜ r ≤ length (now (out .exit)) ⌝ }
+// A tab and a cell: `.` Absent, `?` Unknown, `!` Conflicted, or the name.
+fn write_cell(out: &mut [u8], at: usize, cell: u16) -> usize
+    requires { ⌜ at + 1 + longest-cell ≤ length (now out) ⌝ }
+    ensures { λ r. ⌜ Wrote (now (out .entry)) at (tab ∷ text.cell-text (cell-of cell)) (now (out .exit)) r × (r ≤ at + 1 + longest-cell) ⌝ }
 {
+    let next = fields::write_byte(out, at, b'\t');
     let kind = cell / 1024 % 4;
     match kind {
-        0 => put(out, at, b'.'),
-        1 => put(out, at, b'?'),
-        2 => put(out, at, b'!'),
-        _ => put_name(out, at, cell),
+        0 => fields::write_byte(out, next, b'.'),
+        1 => fields::write_byte(out, next, b'?'),
+        2 => fields::write_byte(out, next, b'!'),
+        _ => write_named(out, next, cell),
     }
-}
-
-fn word(words: &[u16], at: usize) -> u16 {
-    if at < words.len() { words[at] } else { 0 }
 }
 
 // The first n cells of the row that stands at `from`.
-fn put_row(out: &mut [u8], at: usize, words: &[u16], from: usize, n: usize) -> usize
-    requires { ⌜ (at ≤ length (now out)) × (from ≤ 65536) × (n ≤ 65536) ⌝ }
-    ensures { λ r. ⌜ r ≤ length (now (out .exit)) ⌝ }
+fn write_row(out: &mut [u8], at: usize, words: &[u16], from: usize, n: usize) -> usize
+    requires { ⌜ (from + n ≤ length (now words)) × (at + (1 + longest-cell) * n ≤ length (now out)) ⌝ }
+    ensures { λ r. ⌜ Wrote (now (out .entry)) at (row-text from n (now (words .entry))) (now (out .exit)) r × (r ≤ at + (1 + longest-cell) * n) ⌝ }
 {
     let mut next = at;
     let mut i = 0;
     while i < n {
-        let tab = put(out, next, b'\t');
-        next = put_cell(out, tab, word(words, from + i));
+        next = write_cell(out, next, words[from + i]);
         i += 1;
     }
     next
 }
 
 // Under the house rule `1` or `0` for visited, under the old rule `-`.
-fn visited(words: &[u16], rule: Rule, b: usize) -> u8
-    requires { ⌜ b ≤ 255 ⌝ }
+fn visited(rule: Rule, mark: u16) -> u8
+    ensures { λ r. ⌜ ((o : Option paper-steps.State) → mark ≡ mark-of o → (r ∷ []) ≡ text.visited-text rule o) ⌝ }
 {
     match rule {
         Rule::Old => b'-',
-        Rule::House => (48 + word(words, MARK_BASE + b) % 2) as u8,
+        Rule::House => if mark == 0 { b'0' } else { b'1' },
     }
 }
 
 // `D`, the block, and whether it is visited.
-fn put_head(out: &mut [u8], at: usize, b: usize, mark: u8) -> usize
-    requires { ⌜ (at ≤ length (now out)) × (b ≤ 255) ⌝ }
-    ensures { λ r. ⌜ r ≤ length (now (out .exit)) ⌝ }
+fn write_head(out: &mut [u8], at: usize, b: usize, mark: u8) -> usize
+    requires { ⌜ (b < max-blocks) × (at + longest-head ≤ length (now out)) ⌝ }
+    ensures { λ r. ⌜ Wrote (now (out .entry)) at (head-text b mark) (now (out .exit)) r × (r ≤ at + longest-head) ⌝ }
 {
-    let d = put(out, at, b'D');
-    let first = put(out, d, b'\t');
-    let block = put_number(out, first, b as u16);
-    let second = put(out, block, b'\t');
-    put(out, second, mark)
+    let a = fields::write_byte(out, at, b'D');
+    let c = fields::write_before_number(out, a, b'\t', b as u32);
+    let d = fields::write_byte(out, c, b'\t');
+    fields::write_byte(out, d, mark)
 }
 
 // The line of block b.
-fn put_block(out: &mut [u8], at: usize, words: &[u16], rule: Rule, b: usize) -> usize
-    requires { ⌜ (at ≤ length (now out)) × (b ≤ 255) ⌝ }
-    ensures { λ r. ⌜ r ≤ length (now (out .exit)) ⌝ }
+fn write_block(rule: Rule, words: &[u16], out: &mut [u8], at: usize, b: usize) -> usize
+    requires { ⌜ HoldsStates rule (now words) × (b < getD (now words) blocks-word 0) × (at + longest-line ≤ length (now out)) ⌝ }
+    ensures { λ r. ⌜ Wrote (now (out .entry)) at (text.block-text rule (sheet-of (now (words .entry))) b) (now (out .exit)) r × (r ≤ at + longest-line) ⌝ }
 {
-    let head = put_head(out, at, b, visited(words, rule, b));
-    let from = STATE_BASE + b * STATE_WORDS;
-    let regs = put_row(out, head, words, from, word(words, REGS_WORD) as usize);
-    let slots = put_row(
-        out,
-        regs,
-        words,
-        from + ROW_WORDS,
-        word(words, SLOTS_WORD) as usize,
-    );
-    put(out, slots, b'\n')
+    let regs = words[REGS_WORD] as usize;
+    let slots = words[SLOTS_WORD] as usize;
+    let row = STATE_BASE + b * STATE_WORDS;
+    let next_row = row + ROW_WORDS;
+    let mark = visited(rule, words[MARK_BASE + b]);
+    let head = write_head(out, at, b, mark);
+    let first = write_row(out, head, words, row, regs);
+    let second = write_row(out, first, words, next_row, slots);
+    fields::write_byte(out, second, b'\n')
 }
 
-fn put_blocks(out: &mut [u8], words: &[u16], rule: Rule, blocks: usize) -> usize
-    requires { ⌜ blocks ≤ 255 ⌝ }
-    ensures { λ r. ⌜ r ≤ length (now (out .exit)) ⌝ }
+// The lines of all blocks.
+fn write_blocks(rule: Rule, words: &[u16], out: &mut [u8]) -> usize
+    requires { ⌜ HoldsStates rule (now words) × (report-size ≤ length (now out)) ⌝ }
+    ensures { λ r. ⌜ Wrote (now (out .entry)) 0 (text.blocks-text rule (sheet-of (now (words .entry))) 0 (getD (now (words .entry)) blocks-word 0)) (now (out .exit)) r × (r ≤ longest-text) ⌝ }
 {
+    let blocks = words[BLOCKS_WORD] as usize;
     let mut next = 0;
     let mut b = 0;
     while b < blocks {
-        next = put_block(out, next, words, rule, b);
+        next = write_block(rule, words, out, next, b);
         b += 1;
     }
     next
 }
 
-// The text's length; 0 for a sheet that is refused or lacks an allocation.
-pub fn entry_states(
+// The text's length, where the buffers are large enough; the scratch is left as it falls.
+fn write_states(
     rule: Rule,
     sheet: &[u8],
     out: &mut [u8],
-    words: &mut [u16; WORDS_SIZE],
-    queue: &mut [u8; QUEUE_SIZE],
+    words: &mut [u16],
+    queue: &mut [u8],
 ) -> usize
-    ensures { λ r. ⌜ r ≤ length (now (out .exit)) ⌝ }
+    requires { ⌜ (report-size ≤ length (now out)) × (words-size ≤ length (now words)) × (queue-size ≤ length (now queue)) ⌝ }
+    ensures { λ r. ⌜ Written (text.entry-states rule (now (sheet .entry))) (now (out .entry)) (now (words .entry)) (now (queue .entry)) (now (out .exit)) (now (words .exit)) (now (queue .exit)) r ⌝ }
 {
     let loading = sheet::load(sheet, words);
     let Loading::Loaded = loading else {
@@ -170,6 +149,48 @@ pub fn entry_states(
         return 0;
     };
     runs::analyze(rule, words, queue);
-    let blocks = word(words, BLOCKS_WORD) % 256;
-    put_blocks(out, words, rule, blocks as usize)
+    write_blocks(rule, words, out)
+}
+
+// The sheet's entry states at the start of `out`; the length of that text, which is empty for a sheet that is refused or lacks an
+// allocation. Buffers shorter than `check` asks for are left as they are, and the length is 0; else the scratch is left all zero.
+pub fn entry_states(
+    rule: Rule,
+    sheet: &[u8],
+    out: &mut [u8],
+    words: &mut [u16],
+    queue: &mut [u8],
+) -> usize
+    ensures { λ r. ⌜ Stated (text.entry-states rule (now (sheet .entry))) (lent (now (out .entry)) (now (words .entry)) (now (queue .entry))) (lent (now (out .exit)) (now (words .exit)) (now (queue .exit))) r × (r ≤ longest-text) ⌝ }
+{
+    if out.len() < REPORT_SIZE {
+        return 0;
+    }
+    if words.len() < WORDS_SIZE {
+        return 0;
+    }
+    if queue.len() < QUEUE_SIZE {
+        return 0;
+    }
+    let length = write_states(rule, sheet, out, words, queue);
+    scratch::clear_words(words);
+    scratch::clear_bytes(queue);
+    length
+}
+
+// A part of what is compared, at the start of `out`: its length. Buffers and scratch are left as `entry_states` leaves them.
+pub fn text_of(
+    part: Part,
+    rule: Rule,
+    sheet: &[u8],
+    out: &mut [u8],
+    words: &mut [u16],
+    queue: &mut [u8],
+) -> usize
+    ensures { λ r. ⌜ Stated (part-text part rule (now (sheet .entry))) (lent (now (out .entry)) (now (words .entry)) (now (queue .entry))) (lent (now (out .exit)) (now (words .exit)) (now (queue .exit))) r ⌝ }
+{
+    match part {
+        Part::Answer => checker::answer_text(rule, sheet, out, words, queue),
+        Part::States => entry_states(rule, sheet, out, words, queue),
+    }
 }

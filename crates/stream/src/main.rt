@@ -5,34 +5,21 @@ use layout::QUEUE_SIZE;
 use layout::REPORT_SIZE;
 use layout::WORDS_SIZE;
 use paper::Rule;
+use states::Part;
 
-// The two answers to one sheet; whether both could be written.
-fn write_answers(
+// One part of a sheet's texts under both rules; whether both could be written.
+fn write_part(
+    part: Part,
     sheet: &[u8],
     text: &mut [u8],
     words: &mut [u16; WORDS_SIZE],
     queue: &mut [u8; QUEUE_SIZE],
 ) -> bool {
-    let old = checker::answer_text(Rule::Old, sheet, text, words, queue);
+    let old = states::text_of(part, Rule::Old, sheet, text, words, queue);
     if !frames::write(&text[..old]) {
         return false;
     }
-    let house = checker::answer_text(Rule::House, sheet, text, words, queue);
-    frames::write(&text[..house])
-}
-
-// Its entry states under both rules; whether both could be written.
-fn write_states(
-    sheet: &[u8],
-    text: &mut [u8],
-    words: &mut [u16; WORDS_SIZE],
-    queue: &mut [u8; QUEUE_SIZE],
-) -> bool {
-    let old = states::entry_states(Rule::Old, sheet, text, words, queue);
-    if !frames::write(&text[..old]) {
-        return false;
-    }
-    let house = states::entry_states(Rule::House, sheet, text, words, queue);
+    let house = states::text_of(part, Rule::House, sheet, text, words, queue);
     frames::write(&text[..house])
 }
 
@@ -43,11 +30,11 @@ fn write_frames(
     words: &mut [u16; WORDS_SIZE],
     queue: &mut [u8; QUEUE_SIZE],
 ) -> bool {
-    if !write_answers(sheet, text, words, queue) {
+    if !write_part(Part::Answer, sheet, text, words, queue) {
         os::fail(b"stream: standard output");
         return false;
     }
-    if !write_states(sheet, text, words, queue) {
+    if !write_part(Part::States, sheet, text, words, queue) {
         os::fail(b"stream: standard output");
         return false;
     }

@@ -1,4 +1,10 @@
 // What the sheets of a stored list came to, counted and told.
+ghost use mathlib.Core.Path.{_≡_};
+ghost use Rattle.tally.specs.Counted as told;
+
+// The most sheets of one kind that are counted.
+const MOST: u64 = 1000000;
+
 // What one sheet came to.
 pub enum Outcome {
     Same,
@@ -14,12 +20,16 @@ pub struct Tally {
 }
 
 // One more, where it can be counted.
-fn next(n: u64) -> u64 {
-    if n < 1000000 { n + 1 } else { n }
+fn next(n: u64) -> u64
+    ensures { λ r. ⌜ r ≡ told.next n ⌝ }
+{
+    if n < MOST { n + 1 } else { n }
 }
 
 // The tally with one sheet more.
-pub fn counted(tally: Tally, outcome: Outcome) -> Tally {
+pub fn counted(tally: Tally, outcome: Outcome) -> Tally
+    ensures { λ r. ⌜ r ≡ told.counted tally outcome ⌝ }
+{
     let same = tally.same;
     let different = tally.different;
     match outcome {

@@ -1,69 +1,71 @@
+-- `read` meets its contract: what was read went to the room's first bytes, and nothing else was written.
+use Prim.Native.Nat.{_≤_}
 use native.Mathlib.Omega.{arith}
 use lib.ListN.{length-take}
+use Rattle.frames.specs.Frame.{longest-frame}
+use Rattle.frames.proofs.Laws.{kept-behind, kept-further}
 use borrow.Author.Needs.{needs}
 use Rattle.frames.proofs.read.Statement.{statement}
 use Rattle.frames.proofs.read.Tie as tie
-use Rattle.frames.proofs.read.Reads as reads
-use Rattle.frames.proofs.read.Lts as lts
-use Rattle.frames.proofs.read_byte.Reads as read-byte-reads
-use Rattle.frames.proofs.read_length.Reads as read-length-reads
-use Rattle.io.proofs.read_full.Reads as read-full-reads
 
--- src/lib.rt:61:26
 read-byte-requires : tie.Need-read-byte-requires
 read-byte-requires c κs = search needs
 
--- src/lib.rt:61:21
 enum-known-b : tie.Need-enum-known-b
 enum-known-b c = search needs
 
--- src/lib.rt:62:9
 enum-told : tie.Need-enum-told
 enum-told c = search needs
 
--- src/lib.rt:62:9
 returns : tie.Need-returns
 returns c = search needs
 
--- src/lib.rt:65:9
 returns-2 : tie.Need-returns-2
 returns-2 c = search needs
 
--- src/lib.rt:67:9
 read-length-requires : tie.Need-read-length-requires
 read-length-requires c κs = search needs
 
--- src/lib.rt:69:9
+enum-known-length : tie.Need-enum-known-length
+enum-known-length c = search needs
+
+enum-told-2 : tie.Need-enum-told-2
+enum-told-2 c = search needs
+
 returns-3 : tie.Need-returns-3
 returns-3 c = search needs
 
--- src/lib.rt:71:49
-slice-relend-prefix-read-full : tie.Need-slice-relend-prefix-read-full
-slice-relend-prefix-read-full c = search needs
-
--- src/lib.rt:71:49
-slice-aggregate-read-full : tie.Need-slice-aggregate-read-full
-slice-aggregate-read-full c = simp length-take (omega arith)
-
--- src/lib.rt:71:9
-read-full-requires : tie.Need-read-full-requires
-read-full-requires c κs = search needs
-
--- src/lib.rt:73:9
-same-length : tie.Need-same-length
-same-length c = search needs
-
--- src/lib.rt:73:9
 returns-4 : tie.Need-returns-4
 returns-4 c = search needs
 
--- src/lib.rt:58:1
+slice-relend-prefix-read-full : tie.Need-slice-relend-prefix-read-full
+slice-relend-prefix-read-full c = search needs
+
+slice-aggregate-read-full : tie.Need-slice-aggregate-read-full
+slice-aggregate-read-full c = simp length-take (omega arith)
+
+read-full-requires : tie.Need-read-full-requires
+read-full-requires c κs = search needs
+
+same-length : tie.Need-same-length
+same-length c = search needs
+
+-- the length that was read is one of five digits at most
+small : (k : tie.After-slice-known2) → k .before .before .before .before .before .before .length .given .0 .0 ≤ longest-frame
+small k = rw (k .before .before .before .before .before .before .length .given .1) at (k .before .before .before .before .before .before .before .before .read-length .ensures)
+
+returns-5 : tie.Need-returns-5
+returns-5 c = let k = c .before in
+    let room = k .before .before .before .before .before .before .before .before .before .before .before .before .before .before .before .args .room .now in
+    kept-further _ longest-frame _ _ (small k) (kept-behind (k .before .before .before .before .before .before .length .given .0 .0) (k .before .before .read-full .last .1 .0) room (k .before .before .before .before .if2 .left) (same-length c))
+
 same-length-2 : tie.Need-same-length-2
 same-length-2 c = search needs
 
--- src/lib.rt:58:1
-returns-5 : tie.Need-returns-5
-returns-5 c = search needs
+returns-6 : tie.Need-returns-6
+returns-6 c = let k = c .before in
+    let room = k .before .before .before .before .before .before .before .before .before .before .before .before .before .before .before .args .room .now in
+    (omega arith, small k, kept-behind (k .before .before .before .before .before .before .length .given .0 .0) (k .before .before .read-full .last .1 .0) room (k .before .before .before .before .if2 .left) (same-length-2 c))
 
 pub read-spec : {M : Type 1} → statement M
 read-spec =
@@ -75,11 +77,14 @@ read-spec =
     returns
     returns-2
     read-length-requires
+    enum-known-length
+    enum-told-2
     returns-3
+    returns-4
     slice-relend-prefix-read-full
     slice-aggregate-read-full
     read-full-requires
     same-length
-    returns-4
+    returns-5
     same-length-2
-    returns-5)
+    returns-6)

@@ -1,11 +1,9 @@
+-- `read_length` meets its contract: a length of five digits takes no sixth.
+use Rattle.frames.proofs.read_length.Statement.{statement}
+use Rattle.frames.proofs.read_length.Tie as tie
 use Prim.Native.Nat.{_<_, _≤_, _-_}
 use native.Mathlib.Omega.{arith}
 use borrow.Author.Needs.{needs}
-use Rattle.frames.proofs.read_length.Statement.{statement}
-use Rattle.frames.proofs.read_length.Tie as tie
-use Rattle.frames.proofs.read_length.Reads as reads
-use Rattle.frames.proofs.read_length.Lts as lts
-use Rattle.frames.proofs.read_byte.Reads as read-byte-reads
 
 abbrev Inv-loop : tie.InvT-loop
 Inv-loop length₀ digits₀ length digits = (length < 100000) × (digits ≤ 7)
@@ -13,71 +11,54 @@ Inv-loop length₀ digits₀ length digits = (length < 100000) × (digits ≤ 7)
 abbrev μ-loop : tie.MeasureT-loop
 μ-loop length₀ digits₀ length digits = 7 - digits
 
--- src/lib.rt:32:5
 loop-holds : tie.Need-loop-holds Inv-loop μ-loop
 loop-holds c = search needs
 
--- src/lib.rt:33:30
 read-byte-requires : tie.Need-read-byte-requires Inv-loop μ-loop
 read-byte-requires c κs = search needs
 
--- src/lib.rt:33:25
 enum-known-b : tie.Need-enum-known-b Inv-loop μ-loop
 enum-known-b c = search needs
 
--- src/lib.rt:34:13
 enum-told : tie.Need-enum-told Inv-loop μ-loop
 enum-told c = search needs
 
--- src/lib.rt:34:13
 returns : tie.Need-returns Inv-loop μ-loop
 returns c = search needs
 
--- src/lib.rt:38:17
 returns-2 : tie.Need-returns-2 Inv-loop μ-loop
 returns-2 c = search needs
 
--- src/lib.rt:40:13
 returns-3 : tie.Need-returns-3 Inv-loop μ-loop
 returns-3 c = search needs
 
--- src/lib.rt:43:13
 returns-4 : tie.Need-returns-4 Inv-loop μ-loop
 returns-4 c = search needs
 
--- src/lib.rt:46:13
 returns-5 : tie.Need-returns-5 Inv-loop μ-loop
 returns-5 c = search needs
 
--- src/lib.rt:49:13
 returns-6 : tie.Need-returns-6 Inv-loop μ-loop
 returns-6 c = search needs
 
--- src/lib.rt:51:18
 mul-length : tie.Need-mul-length Inv-loop μ-loop
 mul-length c = search needs
 
--- src/lib.rt:51:32
 cast-length : tie.Need-cast-length Inv-loop μ-loop
 cast-length c = search needs
 
--- src/lib.rt:51:18
 add-length : tie.Need-add-length Inv-loop μ-loop
 add-length c = search needs
 
--- src/lib.rt:52:9
 add-digits : tie.Need-add-digits Inv-loop μ-loop
 add-digits c = search needs
 
--- src/lib.rt:32:5
 loop-less : tie.Need-loop-less Inv-loop μ-loop
 loop-less c = search needs
 
--- src/lib.rt:32:5
 loop-again : tie.Need-loop-again Inv-loop μ-loop
 loop-again c = search needs
 
--- src/lib.rt:29:1
 returns-7 : tie.Need-returns-7 Inv-loop μ-loop
 returns-7 c = search needs
 

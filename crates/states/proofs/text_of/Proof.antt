@@ -1,0 +1,60 @@
+-- `text_of` meets its contract: each part is stated by the function that writes it.
+use Rattle.states.specs.Stated.{part-text}
+use Rattle.states.proofs.LawsCall.{answer-stated}
+use borrow.Author.Needs.{needs}
+use Rattle.states.proofs.text_of.Statement.{statement}
+use Rattle.states.proofs.text_of.Tie as tie
+
+enum-told : tie.Need-enum-told
+enum-told c = search needs
+
+answer-text-requires : tie.Need-answer-text-requires
+answer-text-requires c κs = search needs
+
+enum-told-2 : tie.Need-enum-told-2
+enum-told-2 c = search needs
+
+entry-states-requires : tie.Need-entry-states-requires
+entry-states-requires c κs = search needs
+
+same-length : tie.Need-same-length
+same-length c = search needs
+
+same-length-2 : tie.Need-same-length-2
+same-length-2 c = search needs
+
+same-length-3 : tie.Need-same-length-3
+same-length-3 c = search needs
+
+returns : tie.Need-returns
+returns c = rw (c .before .before .before .before .before .before .before .before .before .before .enum-told .given .1) (answer-stated (c .before .before .before .before .before .before .before .before .before .before .before .before .before .before .before .before .args .rule) (c .before .before .before .before .before .before .answer-text .ensures))
+
+same-length-4 : tie.Need-same-length-4
+same-length-4 c = search needs
+
+same-length-5 : tie.Need-same-length-5
+same-length-5 c = search needs
+
+same-length-6 : tie.Need-same-length-6
+same-length-6 c = search needs
+
+returns-2 : tie.Need-returns-2
+unfolding part-text
+returns-2 c = rw (c .before .before .before .before .before .before .before .before .before .before .enum-told2 .given .1) (c .before .before .before .before .before .before .entry-states .ensures .0)
+
+pub text-of-spec : {M : Type 1} → statement M
+text-of-spec =
+    tie.close
+    (tie.spec
+    enum-told
+    answer-text-requires
+    enum-told-2
+    entry-states-requires
+    same-length
+    same-length-2
+    same-length-3
+    returns
+    same-length-4
+    same-length-5
+    same-length-6
+    returns-2)

@@ -1,0 +1,2 @@
+pub mod EntryStates
+pub mod Stated
