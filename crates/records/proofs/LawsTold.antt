@@ -45,6 +45,10 @@ pub refused-line : {S : Sheet} {s : Bytes} {at : ℕ} {read : Option Record} {af
     → number′ ≡ verdict S (some q) → (number′ ≡ 0 → ⊥) → Ends s at after′ → Told S s at read number after r
 refused-line n a e v f ends = record { judged = n ∙ rw e v; ends = λ h. rw a ends; says = λ h. absurd (f (sym n ∙ h)) }
 
+pub refused-as : {S : Sheet} {s : Bytes} {at : ℕ} {read : Option Record} {after after′ : ℕ} {r q : Record} {number number′ : ℕ} → number ≡ number′ → after ≡ after′
+    → (number′ ≡ 0 → ⊥) → Told S s at read number′ after′ q → Told S s at read number after r
+refused-as n a f t = record { judged = n ∙ t .judged; ends = λ h. rw a (t .ends (λ z. h (n ∙ z))); says = λ h. absurd (f (sym n ∙ h)) }
+
 module _ {s : Bytes} {at count : ℕ} {values : List ℕ} {after : ℕ} (r : NumbersRead s at count values after) where
   -- `F`
   pub function-told : (S : Sheet) (b : Bool) (number : ℕ) → count ≡ 5

@@ -92,7 +92,7 @@ pub struct PairLine {
 
 pub struct ChangeLine {
     pub number: u32,
-    pub inst: u32,
+    pub inst: u16,
     pub slot: u32,
     pub from: u16,
     pub to: u16,
@@ -101,7 +101,7 @@ pub struct ChangeLine {
 
 pub struct OperationLine {
     pub number: u32,
-    pub inst: u32,
+    pub inst: u16,
     pub n: usize,
     pub m: usize,
     pub operands: [u16; OPERAND_WORDS],
@@ -110,7 +110,7 @@ pub struct OperationLine {
 
 pub struct SafepointLine {
     pub number: u32,
-    pub inst: u32,
+    pub inst: u16,
     pub mask: u32,
     pub next: usize,
 }
@@ -505,7 +505,7 @@ pub fn change_line(s: &[u8], at: usize, counts: Counts, typed: &[u16]) -> Change
     }
     ChangeLine {
         number,
-        inst,
+        inst: inst as u16,
         slot,
         from: name_word(from),
         to: name_word(to),
@@ -764,7 +764,7 @@ pub fn operation_line(s: &[u8], at: usize, counts: Counts, typed: &[u16]) -> Ope
     }
     OperationLine {
         number,
-        inst,
+        inst: inst as u16,
         n: uses.count,
         m: defs.count,
         operands: pack(
@@ -827,6 +827,18 @@ fn read_slots(s: &[u8], at: usize, slots: u32) -> Slots
     }
 }
 
+// A `P` that is refused.
+fn no_safepoint(number: u32, next: usize) -> SafepointLine
+    ensures { λ r. ⌜ (r .number ≡ number) × (r .next ≡ next) ⌝ }
+{
+    SafepointLine {
+        number,
+        inst: 0,
+        mask: 0,
+        next,
+    }
+}
+
 // `P inst slot..`: the mask has a bit for each slot listed.
 pub fn safepoint_line(s: &[u8], at: usize, counts: Counts) -> SafepointLine
     requires { ⌜ Behind (now s) at × CountsWithin counts ⌝ }
@@ -834,28 +846,25 @@ pub fn safepoint_line(s: &[u8], at: usize, counts: Counts) -> SafepointLine
     ensures within { λ r. ⌜ (r .number ≡ 0 → (r .inst ≤ max-inst) × (r .mask < 2 ^ counts .slots)) ⌝ }
 {
     let Number::Value(inst, first) = number_behind(s, at) else {
-        return SafepointLine {
-            number: ILL_FORMED,
-            inst: 0,
-            mask: 0,
-            next: at,
-        };
+        return no_safepoint(ILL_FORMED, at);
     };
     let slots = read_slots(s, first, counts.slots);
     let listed = slots.listed;
-    let number = if slots.good {
-        lowest(
-            (MAX_INST < inst) | listed.beyond,
-            listed.disorder,
-            false,
-            false,
-        )
-    } else {
-        ILL_FORMED
-    };
+    if !slots.good {
+        return no_safepoint(ILL_FORMED, at);
+    }
+    let number = lowest(
+        (MAX_INST < inst) | listed.beyond,
+        listed.disorder,
+        false,
+        false,
+    );
+    if number != 0 {
+        return no_safepoint(number, slots.next);
+    }
     SafepointLine {
         number,
-        inst,
+        inst: inst as u16,
         mask: listed.mask,
         next: slots.next,
     }

@@ -275,7 +275,7 @@ fn read_change(sheet: &[u8], at: usize, words: &mut [u16]) -> Lined
     ensures { λ r. ⌜ LineRead (change-of (fields-behind (now (sheet .entry)) at)) (now (sheet .entry)) at (now (words .entry)) (now (words .exit)) r ⌝ }
 {
     let line = records::change_line(sheet, at, counts(words), &words[TYPED_BASE..BLOCK_BASE]);
-    let inst = (line.inst % 65536) as u16;
+    let inst = line.inst;
     let slot = line.slot as usize;
     let from = line.from;
     let to = line.to;
@@ -313,7 +313,7 @@ fn read_operation(sheet: &[u8], at: usize, words: &mut [u16]) -> Lined
     let place = OPERAND_BASE + words[STEPS_WORD] as usize * OPERAND_WORDS;
     let operands = line.operands;
     store_operands(words, place, operands);
-    let inst = (line.inst % 65536) as u16;
+    let inst = line.inst;
     let uses = line.n;
     let defs = line.m;
     step_line(
@@ -335,7 +335,7 @@ fn read_safepoint(sheet: &[u8], at: usize, words: &mut [u16]) -> Lined
     ensures { λ r. ⌜ LineRead (safepoint-of (fields-behind (now (sheet .entry)) at)) (now (sheet .entry)) at (now (words .entry)) (now (words .exit)) r ⌝ }
 {
     let line = records::safepoint_line(sheet, at, counts(words));
-    let inst = (line.inst % 65536) as u16;
+    let inst = line.inst;
     let mask = line.mask;
     step_line(
         words,

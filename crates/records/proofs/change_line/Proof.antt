@@ -65,6 +65,9 @@ returns-2 c =
       λ z. absurd (c .before .if2 .taken (sym (c .no-change2 .ensures .0) ∙ z)),
     )
 
+cast-t18 : tie.Need-cast-t18
+cast-t18 c = omega (arith, clear (c .before) (c .if2 .left) .inst-most)
+
 name-word-requires : tie.Need-name-word-requires
 name-word-requires c κs = clear (c .before) (c .if2 .left) .from-fits
 
@@ -100,6 +103,7 @@ change-line-spec =
     lowest-requires
     no-change-requires-2
     returns-2
+    cast-t18
     name-word-requires
     name-word-requires-2
     returns-3)

@@ -119,6 +119,9 @@ returns-5 c =
       λ z. absurd (c .before .if4 .taken (sym (c .no-operation5 .ensures .0) ∙ z)),
     )
 
+cast-t15 : tie.Need-cast-t15
+cast-t15 c = omega (arith, operation-inst _ _ _ _ (judged (c .before)) (c .if4 .left))
+
 pack-requires : tie.Need-pack-requires
 pack-requires c κs =
     let d = c .before .before .before .before in
@@ -178,6 +181,7 @@ operation-line-spec =
     judge-operation-requires
     no-operation-requires-5
     returns-5
+    cast-t15
     pack-requires
     pack-requires-2
     returns-6)

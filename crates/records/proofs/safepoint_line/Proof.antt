@@ -1,10 +1,24 @@
-use mathlib.Core.Path.{refl}
+use mathlib.Core.Path.{_≡_, refl, sym, _∙_}
 use native.Mathlib.Omega.{arith}
-use Rattle.records.proofs.LawsTold.{ill-formed}
+use borrow.Author.Tests.{not-true, not-false}
+use Rattle.fields.specs.declared.Number.the-variants.{Value}
+use Rattle.records.specs.Records.{NumberBehind}
+use Rattle.records.specs.Parts.{SlotsRead}
+use Rattle.records.proofs.LawsTold.{no-form, refused-as}
 use Rattle.records.proofs.LawsSteps.{safepoint-no-inst, safepoint-bad, safepoint-told, safepoint-within}
 use borrow.Author.Needs.{needs}
 use Rattle.records.proofs.safepoint_line.Statement.{statement}
 use Rattle.records.proofs.safepoint_line.Tie as tie
+
+-- what was read, up to each place
+got-inst : (c : tie.After-inst) → NumberBehind (c .before .before .before .before .args .s .now) (c .before .before .before .before .args .at) (Value (c .inst .given .0 .0) (c .inst .given .0 .1 .0))
+got-inst c = rw (c .inst .given .1) at (c .before .before .number-behind .ensures)
+
+abbrev inst-of : tie.Else1 → tie.After-inst
+inst-of c = c .before .before .before .before .before
+
+got-slots : (c : tie.Else1) → SlotsRead (inst-of c .before .before .before .before .args .s .now) (inst-of c .inst .given .0 .1 .0) (inst-of c .before .before .before .before .args .counts .slots) (c .before .before .before .read-slots .result .next) (c .before .before .before .read-slots .result .listed)
+got-slots c = c .before .before .before .read-slots .ensures .0 (not-false _ (c .if1 .left))
 
 number-behind-requires : tie.Need-number-behind-requires
 number-behind-requires c κs = search needs
@@ -15,34 +29,55 @@ enum-known-inst c = search needs
 enum-told : tie.Need-enum-told
 enum-told c = search needs
 
+no-safepoint-requires : tie.Need-no-safepoint-requires
+no-safepoint-requires c κs = search needs
+
 returns : tie.Need-returns
-returns c = (λ S h. ill-formed (safepoint-no-inst _ _ (rw (c .enum-told .given .1) at (c .before .before .number-behind .ensures))), λ z. absurd (omega arith))
+returns c = (
+  λ S h. no-form (c .no-safepoint .ensures .0) (safepoint-no-inst _ _ (rw (c .before .enum-told .given .1) at (c .before .before .before .number-behind .ensures))),
+  λ z. absurd (omega (arith, c .no-safepoint .ensures .0)),
+)
 
 read-slots-requires : tie.Need-read-slots-requires
-read-slots-requires c κs =
-    let w = rw (c .before .inst .given .1) at (c .before .before .before .number-behind .ensures) in
-    (w .0 .behind, c .before .before .before .before .before .pre .1 .slots)
+read-slots-requires c κs = (got-inst (c .before) .0 .behind, c .before .before .before .before .before .pre .1 .slots)
+
+no-safepoint-requires-2 : tie.Need-no-safepoint-requires-2
+no-safepoint-requires-2 c κs = search needs
+
+returns-2 : tie.Need-returns-2
+returns-2 c =
+    let r = c .before .before .before .before in (
+      λ S h. no-form (c .no-safepoint2 .ensures .0) (safepoint-bad (got-inst (r .before .before) .0) (r .read-slots .ensures .1 (not-true _ (c .before .if1 .taken)))),
+      λ z. absurd (omega (arith, c .no-safepoint2 .ensures .0)),
+    )
 
 lowest-requires : tie.Need-lowest-requires
 lowest-requires c κs = search needs
 
-returns-2 : tie.Need-returns-2
-returns-2 c =
-    let t = c .before .before in
-    let r = t .before .before in
-    let i = r .before .before in
-    let w = rw (i .inst .given .1) at (i .before .before .number-behind .ensures) in
-    let q = r .read-slots .ensures .0 (t .if1 .taken) in (
-      λ S h. safepoint-told (w .0) q h refl (c .lowest .ensures),
-      λ z. safepoint-within (w .0) q (c .lowest .ensures) z,
-    )
+no-safepoint-requires-3 : tie.Need-no-safepoint-requires-3
+no-safepoint-requires-3 c κs = search needs
 
 returns-3 : tie.Need-returns-3
 returns-3 c =
-    let r = c .before .before in
-    let i = r .before .before in
-    let w = rw (i .inst .given .1) at (i .before .before .number-behind .ensures) in
-    (λ S h. ill-formed (safepoint-bad (w .0) (r .read-slots .ensures .1 (c .if1 .left))), λ z. absurd (omega arith))
+    let l = c .before .before in
+    let e = l .before .before in (
+      λ S h. refused-as (c .no-safepoint3 .ensures .0) (c .no-safepoint3 .ensures .1) (c .before .if2 .taken) (safepoint-told (got-inst (inst-of e) .0) (got-slots e) h refl (l .lowest .ensures)),
+      λ z. absurd (c .before .if2 .taken (sym (c .no-safepoint3 .ensures .0) ∙ z)),
+    )
+
+cast-t12 : tie.Need-cast-t12
+cast-t12 c =
+    let l = c .before in
+    let e = l .before .before in
+    omega (arith, safepoint-within (got-inst (inst-of e) .0) (got-slots e) (l .lowest .ensures) (c .if2 .left) .0)
+
+returns-4 : tie.Need-returns-4
+returns-4 c =
+    let l = c .before in
+    let e = l .before .before in (
+      λ S h. safepoint-told (got-inst (inst-of e) .0) (got-slots e) h refl (l .lowest .ensures),
+      λ z. safepoint-within (got-inst (inst-of e) .0) (got-slots e) (l .lowest .ensures) z,
+    )
 
 pub safepoint-line-spec : {M : Type 1} → statement M
 safepoint-line-spec =
@@ -51,8 +86,13 @@ safepoint-line-spec =
     number-behind-requires
     enum-known-inst
     enum-told
+    no-safepoint-requires
     returns
     read-slots-requires
-    lowest-requires
+    no-safepoint-requires-2
     returns-2
-    returns-3)
+    lowest-requires
+    no-safepoint-requires-3
+    returns-3
+    cast-t12
+    returns-4)

@@ -1,10 +1,4 @@
-use mathlib.Core.Path.{_≡_, refl, sym, _∙_}
-use mathlib.Core.Bool.{false, not, _||_}
-use Prim.Native.Nat.{_<_, _≤_}
 use native.Mathlib.Omega.{arith}
-use lib.Dec.{eqb, leb}
-use lib.ListN.{getD}
-use Prim.Native.Nat.{_%_}
 use Rattle.lists.specs.Region.{region, length-region}
 use Rattle.paper.specs.Sheet.{change}
 use Rattle.paper.specs.Refusals.{step-record, change-of}
@@ -17,17 +11,14 @@ use Rattle.sheet.specs.Loaded.{sheet-of}
 use Rattle.sheet.proofs.LawsJudged.{changes-alike}
 use Rattle.sheet.proofs.LawsProgress.{size-of, counted-by, within-by, typed-by}
 use Rattle.sheet.proofs.LawsActions.{change-fits}
-use Rattle.sheet.proofs.LawsLines.{told-most, told-as, told-inside}
+use Rattle.sheet.proofs.LawsLines.{told-most, told-inside}
 use borrow.Author.Needs.{needs}
 use Rattle.sheet.proofs.read_change.Statement.{statement}
 use Rattle.sheet.proofs.read_change.Tie as tie
 
-told : (c : tie.After-change-line) → Told (sheet-of (c .before .before .before .before .before .before .before .args .words .now)) (c .before .before .before .before .before .before .before .args .sheet .now) (c .before .before .before .before .before .before .before .args .at) (change-of (fields-behind (c .before .before .before .before .before .before .before .args .sheet .now) (c .before .before .before .before .before .before .before .args .at))) (c .change-line .result .number) (c .change-line .result .next) (step-record (change (c .change-line .result .inst % 65536) (c .change-line .result .slot) (cells.name-of-word (c .change-line .result .from)) (cells.name-of-word (c .change-line .result .to))))
+told : (c : tie.After-change-line) → Told (sheet-of (c .before .before .before .before .before .before .before .args .words .now)) (c .before .before .before .before .before .before .before .args .sheet .now) (c .before .before .before .before .before .before .before .args .at) (change-of (fields-behind (c .before .before .before .before .before .before .before .args .sheet .now) (c .before .before .before .before .before .before .before .args .at))) (c .change-line .result .number) (c .change-line .result .next) (step-record (change (c .change-line .result .inst) (c .change-line .result .slot) (cells.name-of-word (c .change-line .result .from)) (cells.name-of-word (c .change-line .result .to))))
 unfolding region
-told c =
-    told-as _ (c .change-line .ensures .0 (sheet-of (c .before .before .before .before .before .before .before .args .words .now)) (counted-by _ _ (c .before .before .before .counts .ensures)) (typed-by _)) λ z.
-    let e : c .change-line .result .inst % 65536 ≡ c .change-line .result .inst = omega (arith, c .change-line .ensures .1 z .inst-most) in
-    rw e
+told c = c .change-line .ensures .0 (sheet-of (c .before .before .before .before .before .before .before .args .words .now)) (counted-by _ _ (c .before .before .before .counts .ensures)) (typed-by _)
 
 counts-requires : tie.Need-counts-requires
 counts-requires c κs = size-of _ (c .before .before .before .pre .1)
@@ -46,26 +37,23 @@ unfolding region
 change-line-requires c κs = let s = c .before .before .before .before .before .before in
     (s .pre .0, length-region typed-base typed-words (s .args .words .now) (omega (arith, size-of _ (s .pre .1))), within-by _ _ (c .before .before .counts .ensures) (s .pre .1))
 
-cast-inst : tie.Need-cast-inst
-cast-inst c = omega arith
-
 cast-slot : tie.Need-cast-slot
 cast-slot c = search needs
 
 step-line-requires : tie.Need-step-line-requires
-step-line-requires c κs = let t = c .before .before .before in
-    let s = c .before .before .before .before .before .before .before .before .before .before in
+step-line-requires c κs = let t = c .before .before in
+    let s = c .before .before .before .before .before .before .before .before .before in
     (s .pre .1, told-most (told t), told-inside (told t) (s .pre .0 .size), λ z. change-fits _ (s .pre .1) _ _ _ _ (rw (t .before .before .before .counts .ensures) at (t .change-line .ensures .1 z .slot-below)))
 
 same-length : tie.Need-same-length
 unfolding step-of
-same-length c = let s = c .before .before .before .before .before .before .before .before .before .before .before .before .before in
-    c .before .before .step-line .ensures .lined-step _ _ _ (changes-alike (fields-behind (s .args .sheet .now) (s .args .at)) _) (told (c .before .before .before .before .before .before)) .same-length
+same-length c = let s = c .before .before .before .before .before .before .before .before .before .before .before .before in
+    c .before .before .step-line .ensures .lined-step _ _ _ (changes-alike (fields-behind (s .args .sheet .now) (s .args .at)) _) (told (c .before .before .before .before .before)) .same-length
 
 returns : tie.Need-returns
 unfolding step-of
-returns c = let s = c .before .before .before .before .before .before .before .before .before .before .before .before .before in
-    c .before .before .step-line .ensures .lined-step _ _ _ (changes-alike (fields-behind (s .args .sheet .now) (s .args .at)) _) (told (c .before .before .before .before .before .before))
+returns c = let s = c .before .before .before .before .before .before .before .before .before .before .before .before in
+    c .before .before .step-line .ensures .lined-step _ _ _ (changes-alike (fields-behind (s .args .sheet .now) (s .args .at)) _) (told (c .before .before .before .before .before))
 
 pub read-change-spec : {M : Type 1} → statement M
 read-change-spec =
@@ -76,7 +64,6 @@ read-change-spec =
     part-change-line-start
     part-change-line-end
     change-line-requires
-    cast-inst
     cast-slot
     step-line-requires
     same-length

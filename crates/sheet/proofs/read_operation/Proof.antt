@@ -1,15 +1,10 @@
-use mathlib.Core.Path.{_≡_, refl, sym, _∙_}
-use mathlib.Core.Bool.{false, not, _||_}
-use Prim.Native.Nat.{_<_, _≤_}
+use mathlib.Core.Path.{_≡_, sym, _∙_}
 use native.Mathlib.Omega.{arith}
-use lib.Dec.{eqb, leb}
 use lib.ListN.{getD}
-use Prim.Native.Nat.{_%_}
 use lib.ListN.{length, length-map}
 use Rattle.lists.specs.Region.{region, length-region}
-use Rattle.paper.specs.Sheet.{operation}
 use Rattle.paper.specs.Refusals.{step-record, operation-of}
-use Rattle.layout.specs.Layout.{regs-word, typed-base, typed-words}
+use Rattle.layout.specs.Layout.{regs-word, steps-word, typed-base, typed-words, defs-from, operand-words}
 use Rattle.fields.specs.Fields.{fields-behind}
 use Rattle.records.specs.Records.{Told, GroupWithin}
 use Rattle.steps.specs.Actions.{step-of}
@@ -24,24 +19,24 @@ use Rattle.sheet.proofs.read_operation.Statement.{statement}
 use Rattle.sheet.proofs.read_operation.Tie as tie
 
 -- the two groups of a line that breaks nothing
-groups : (c : tie.After-operation-line) → c .operation-line .result .number ≡ 0 → (c .operation-line .result .inst % 65536 ≡ c .operation-line .result .inst) × GroupWithin (sheet-of (c .before .before .before .before .before .before .before .args .words .now)) (getD (c .before .before .before .before .before .before .before .args .words .now) regs-word 0) 0 (c .operation-line .result .n) (c .operation-line .result .operands) × GroupWithin (sheet-of (c .before .before .before .before .before .before .before .args .words .now)) (getD (c .before .before .before .before .before .before .before .args .words .now) regs-word 0) 8 (c .operation-line .result .m) (c .operation-line .result .operands)
+groups : (c : tie.After-operation-line) → c .operation-line .result .number ≡ 0 → GroupWithin (sheet-of (c .before .before .before .before .before .before .before .args .words .now)) (getD (c .before .before .before .before .before .before .before .args .words .now) regs-word 0) 0 (c .operation-line .result .n) (c .operation-line .result .operands) × GroupWithin (sheet-of (c .before .before .before .before .before .before .before .args .words .now)) (getD (c .before .before .before .before .before .before .before .args .words .now) regs-word 0) defs-from (c .operation-line .result .m) (c .operation-line .result .operands)
 unfolding region
 groups c z =
     let w = c .operation-line .ensures .1 z (sheet-of (c .before .before .before .before .before .before .before .args .words .now)) (counted-by _ _ (c .before .before .before .counts .ensures)) (typed-by (c .before .before .before .before .before .before .before .args .words .now)) in
-    (omega (arith, w .0), rw (c .before .before .before .counts .ensures) at (w .1), rw (c .before .before .before .counts .ensures) at (w .2))
+    (rw (c .before .before .before .counts .ensures) at (w .1), rw (c .before .before .before .counts .ensures) at (w .2))
 
-all : (c : tie.After-operation-line) → length (c .operation-line .result .operands) ≡ 16
+all : (c : tie.After-operation-line) → length (c .operation-line .result .operands) ≡ operand-words
 all c = sym (length-map (c .operation-line .result .operands) (λ v. v)) ∙ c .operation-line .ok .1 .1 .1 .1 .1 .1 .0 .1 .0 .1
 
 -- what is told of the line, once its operands stand in the words
-told : (c : tie.After-store-operands) → Told (sheet-of (c .store-operands .last .0)) (c .before .before .before .before .before .before .before .before .before .before .before .args .sheet .now) (c .before .before .before .before .before .before .before .before .before .before .before .args .at) (operation-of (fields-behind (c .before .before .before .before .before .before .before .before .before .before .before .args .sheet .now) (c .before .before .before .before .before .before .before .before .before .before .before .args .at))) (c .before .before .before .before .operation-line .result .number) (c .before .before .before .before .operation-line .result .next) (step-record (step-of (c .store-operands .last .0) (Operation (c .before .before .before .before .operation-line .result .inst % 65536) (operands-place (c .before .before .before .before .before .before .before .before .before .before .before .args .words .now)) (c .before .before .before .before .operation-line .result .n) (c .before .before .before .before .operation-line .result .m))))
+told : (c : tie.After-store-operands) → Told (sheet-of (c .store-operands .last .0)) (c .before .before .before .before .before .before .before .before .before .before .before .args .sheet .now) (c .before .before .before .before .before .before .before .before .before .before .before .args .at) (operation-of (fields-behind (c .before .before .before .before .before .before .before .before .before .before .before .args .sheet .now) (c .before .before .before .before .before .before .before .before .before .before .before .args .at))) (c .before .before .before .before .operation-line .result .number) (c .before .before .before .before .operation-line .result .next) (step-record (step-of (c .store-operands .last .0) (Operation (c .before .before .before .before .operation-line .result .inst) (operands-place (c .before .before .before .before .before .before .before .before .before .before .before .args .words .now)) (c .before .before .before .before .operation-line .result .n) (c .before .before .before .before .operation-line .result .m))))
 told c =
     let t = c .before .before .before .before in
     let s = c .before .before .before .before .before .before .before .before .before .before .before in
     rw (sheet-kept (t .operation-line .result .operands) (s .args .words .now) (c .store-operands .last .0) (c .store-operands .ensures) (s .pre .1))
     (told-as _ (t .operation-line .ensures .0 (sheet-of (s .args .words .now)) (counted-by _ _ (t .before .before .before .counts .ensures))) λ z.
     let g = groups t z in
-    rw (operation-stored (t .operation-line .result .operands) (s .args .words .now) (c .store-operands .last .0) (c .store-operands .ensures) (all t) (operands-room _ (s .pre .1)) (t .operation-line .result .inst % 65536) _ _ (g .1 .few) (g .2 .few), g .0))
+    rw (operation-stored (t .operation-line .result .operands) (s .args .words .now) (c .store-operands .last .0) (c .store-operands .ensures) (all t) (operands-room _ (s .pre .1)) (t .operation-line .result .inst) _ _ (g .0 .few) (g .1 .few)))
 
 counts-requires : tie.Need-counts-requires
 counts-requires c κs = size-of _ (c .before .before .before .pre .1)
@@ -64,37 +59,34 @@ slice-read-place : tie.Need-slice-read-place
 slice-read-place c = omega (arith, size-of _ (c .before .before .before .before .before .before .before .before .pre .1))
 
 cast-place : tie.Need-cast-place
-cast-place c = omega (arith, c .slice-known2 .given 6)
+cast-place c = omega (arith, c .slice-known2 .given steps-word)
 
 mul-place : tie.Need-mul-place
-mul-place c = omega (arith, c .slice-known2 .given 6)
+mul-place c = omega (arith, c .slice-known2 .given steps-word)
 
 add-place : tie.Need-add-place
-add-place c = omega (arith, c .slice-known2 .given 6)
+add-place c = omega (arith, c .slice-known2 .given steps-word)
 
 store-operands-requires : tie.Need-store-operands-requires
 store-operands-requires c κs = operands-room _ (c .before .before .before .before .before .before .before .before .before .before .pre .1)
 
-cast-inst : tie.Need-cast-inst
-cast-inst c = omega arith
-
 step-line-requires : tie.Need-step-line-requires
-step-line-requires c κs = let o = c .before .before .before .before in
-    let t = c .before .before .before .before .before .before .before .before in
-    let s = c .before .before .before .before .before .before .before .before .before .before .before .before .before .before .before in (
+step-line-requires c κs = let o = c .before .before .before in
+    let t = c .before .before .before .before .before .before .before in
+    let s = c .before .before .before .before .before .before .before .before .before .before .before .before .before .before in (
       progress-kept (t .operation-line .result .operands) (s .args .words .now) (o .store-operands .last .0) (o .store-operands .ensures) (s .pre .1),
       told-most (told o),
       told-inside (told o) (s .pre .0 .size),
-      λ z. operation-fits (t .operation-line .result .operands) (s .args .words .now) (o .store-operands .last .0) (o .store-operands .ensures) (all t) (operands-room _ (s .pre .1)) (s .pre .1) _ _ _ (groups t z .1) (groups t z .2),
+      λ z. operation-fits (t .operation-line .result .operands) (s .args .words .now) (o .store-operands .last .0) (o .store-operands .ensures) (all t) (operands-room _ (s .pre .1)) (s .pre .1) _ _ _ (groups t z .0) (groups t z .1),
     )
 
 same-length : tie.Need-same-length
-same-length c = let s = c .before .before .before .before .before .before .before .before .before .before .before .before .before .before .before .before .before .before in
-    line-kept (c .before .before .before .before .before .before .before .before .before .before .before .operation-line .result .operands) (s .args .words .now) (c .before .before .before .before .before .before .before .store-operands .last .0) (c .before .before .before .before .before .before .before .store-operands .ensures) (s .pre .1) (c .before .before .step-line .ensures .lined-step _ _ _ (operations-alike (fields-behind (s .args .sheet .now) (s .args .at)) _) (told (c .before .before .before .before .before .before .before))) .same-length
+same-length c = let s = c .before .before .before .before .before .before .before .before .before .before .before .before .before .before .before .before .before in
+    line-kept (c .before .before .before .before .before .before .before .before .before .before .operation-line .result .operands) (s .args .words .now) (c .before .before .before .before .before .before .store-operands .last .0) (c .before .before .before .before .before .before .store-operands .ensures) (s .pre .1) (c .before .before .step-line .ensures .lined-step _ _ _ (operations-alike (fields-behind (s .args .sheet .now) (s .args .at)) _) (told (c .before .before .before .before .before .before))) .same-length
 
 returns : tie.Need-returns
-returns c = let s = c .before .before .before .before .before .before .before .before .before .before .before .before .before .before .before .before .before .before in
-    line-kept (c .before .before .before .before .before .before .before .before .before .before .before .operation-line .result .operands) (s .args .words .now) (c .before .before .before .before .before .before .before .store-operands .last .0) (c .before .before .before .before .before .before .before .store-operands .ensures) (s .pre .1) (c .before .before .step-line .ensures .lined-step _ _ _ (operations-alike (fields-behind (s .args .sheet .now) (s .args .at)) _) (told (c .before .before .before .before .before .before .before)))
+returns c = let s = c .before .before .before .before .before .before .before .before .before .before .before .before .before .before .before .before .before in
+    line-kept (c .before .before .before .before .before .before .before .before .before .before .operation-line .result .operands) (s .args .words .now) (c .before .before .before .before .before .before .store-operands .last .0) (c .before .before .before .before .before .before .store-operands .ensures) (s .pre .1) (c .before .before .step-line .ensures .lined-step _ _ _ (operations-alike (fields-behind (s .args .sheet .now) (s .args .at)) _) (told (c .before .before .before .before .before .before)))
 
 pub read-operation-spec : {M : Type 1} → statement M
 read-operation-spec =
@@ -110,7 +102,6 @@ read-operation-spec =
     mul-place
     add-place
     store-operands-requires
-    cast-inst
     step-line-requires
     same-length
     returns)

@@ -1,10 +1,3 @@
-use mathlib.Core.Path.{_≡_, refl, sym, _∙_}
-use mathlib.Core.Bool.{false, not, _||_}
-use Prim.Native.Nat.{_<_, _≤_}
-use native.Mathlib.Omega.{arith}
-use lib.Dec.{eqb, leb}
-use lib.ListN.{getD}
-use Prim.Native.Nat.{_%_}
 use Rattle.lists.specs.Bits as bits
 use Rattle.paper.specs.Sheet.{safepoint}
 use Rattle.paper.specs.Refusals.{step-record, safepoint-of}
@@ -15,16 +8,12 @@ use Rattle.sheet.specs.Loaded.{sheet-of}
 use Rattle.sheet.proofs.LawsJudged.{safepoints-alike}
 use Rattle.sheet.proofs.LawsProgress.{size-of, counted-by, within-by}
 use Rattle.sheet.proofs.LawsActions.{safepoint-fits}
-use Rattle.sheet.proofs.LawsLines.{told-most, told-as, told-inside}
-use borrow.Author.Needs.{needs}
+use Rattle.sheet.proofs.LawsLines.{told-most, told-inside}
 use Rattle.sheet.proofs.read_safepoint.Statement.{statement}
 use Rattle.sheet.proofs.read_safepoint.Tie as tie
 
-told : (c : tie.After-safepoint-line) → Told (sheet-of (c .before .before .before .before .before .args .words .now)) (c .before .before .before .before .before .args .sheet .now) (c .before .before .before .before .before .args .at) (safepoint-of (fields-behind (c .before .before .before .before .before .args .sheet .now) (c .before .before .before .before .before .args .at))) (c .safepoint-line .result .number) (c .safepoint-line .result .next) (step-record (safepoint (c .safepoint-line .result .inst % 65536) (bits.set-bits (c .safepoint-line .result .mask))))
-told c =
-    told-as _ (c .safepoint-line .ensures .0 (sheet-of (c .before .before .before .before .before .args .words .now)) (counted-by _ _ (c .before .counts .ensures))) λ z.
-    let e : c .safepoint-line .result .inst % 65536 ≡ c .safepoint-line .result .inst = omega (arith, c .safepoint-line .ensures .1 z .0) in
-    rw e
+told : (c : tie.After-safepoint-line) → Told (sheet-of (c .before .before .before .before .before .args .words .now)) (c .before .before .before .before .before .args .sheet .now) (c .before .before .before .before .before .args .at) (safepoint-of (fields-behind (c .before .before .before .before .before .args .sheet .now) (c .before .before .before .before .before .args .at))) (c .safepoint-line .result .number) (c .safepoint-line .result .next) (step-record (safepoint (c .safepoint-line .result .inst) (bits.set-bits (c .safepoint-line .result .mask))))
+told c = c .safepoint-line .ensures .0 (sheet-of (c .before .before .before .before .before .args .words .now)) (counted-by _ _ (c .before .counts .ensures))
 
 counts-requires : tie.Need-counts-requires
 counts-requires c κs = size-of _ (c .before .before .before .pre .1)
@@ -32,23 +21,20 @@ counts-requires c κs = size-of _ (c .before .before .before .pre .1)
 safepoint-line-requires : tie.Need-safepoint-line-requires
 safepoint-line-requires c κs = let s = c .before .before .before .before in (s .pre .0, within-by _ _ (c .counts .ensures) (s .pre .1))
 
-cast-inst : tie.Need-cast-inst
-cast-inst c = omega arith
-
 step-line-requires : tie.Need-step-line-requires
-step-line-requires c κs = let t = c .before .before in
-    let s = c .before .before .before .before .before .before .before in
+step-line-requires c κs = let t = c .before in
+    let s = c .before .before .before .before .before .before in
     (s .pre .1, told-most (told t), told-inside (told t) (s .pre .0 .size), λ z. safepoint-fits _ (s .pre .1) _ _ (rw (t .before .counts .ensures) at (t .safepoint-line .ensures .1 z .1)))
 
 same-length : tie.Need-same-length
 unfolding step-of
-same-length c = let s = c .before .before .before .before .before .before .before .before .before .before in
-    c .before .before .step-line .ensures .lined-step _ _ _ (safepoints-alike (fields-behind (s .args .sheet .now) (s .args .at)) _) (told (c .before .before .before .before .before)) .same-length
+same-length c = let s = c .before .before .before .before .before .before .before .before .before in
+    c .before .before .step-line .ensures .lined-step _ _ _ (safepoints-alike (fields-behind (s .args .sheet .now) (s .args .at)) _) (told (c .before .before .before .before)) .same-length
 
 returns : tie.Need-returns
 unfolding step-of
-returns c = let s = c .before .before .before .before .before .before .before .before .before .before in
-    c .before .before .step-line .ensures .lined-step _ _ _ (safepoints-alike (fields-behind (s .args .sheet .now) (s .args .at)) _) (told (c .before .before .before .before .before))
+returns c = let s = c .before .before .before .before .before .before .before .before .before in
+    c .before .before .step-line .ensures .lined-step _ _ _ (safepoints-alike (fields-behind (s .args .sheet .now) (s .args .at)) _) (told (c .before .before .before .before))
 
 pub read-safepoint-spec : {M : Type 1} → statement M
 read-safepoint-spec =
@@ -56,7 +42,6 @@ read-safepoint-spec =
     (tie.spec
     counts-requires
     safepoint-line-requires
-    cast-inst
     step-line-requires
     same-length
     returns)
