@@ -47,6 +47,7 @@ fn structured(sheet: &Sheet) -> Vec<Sheet> {
         with(&|s| s.blocks[block].succs.clear());
         if sheet.blocks.len() > 1 {
             with(&|s| drop_block(s, block as u32));
+            with(&|s| bridge_block(s, block as u32));
         }
     }
     for block in 0..sheet.blocks.len() {
@@ -88,6 +89,21 @@ fn drop_block(sheet: &mut Sheet, block: u32) {
         }
     }
     sheet.entry = lower(sheet.entry).min(sheet.blocks.len() as u32 - 1);
+}
+
+/// Takes a block out; what led to it leads to its first successor instead.
+fn bridge_block(sheet: &mut Sheet, block: u32) {
+    let next = sheet.blocks[block as usize].succs.iter().cloned().find(|succ| *succ != block);
+    if let Some(next) = next {
+        let beyond = |n: u32| if n == block { next } else { n };
+        for b in &mut sheet.blocks {
+            for succ in &mut b.succs {
+                *succ = beyond(*succ);
+            }
+        }
+        sheet.entry = beyond(sheet.entry);
+    }
+    drop_block(sheet, block);
 }
 
 /// How many operands or slots a step lists.
