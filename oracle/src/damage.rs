@@ -105,6 +105,20 @@ fn line_sheets(head: &str, lines: &[&str], tail: &str) -> Vec<Vec<u8>> {
     lines.iter().map(|line| sheet(&format!("{}{}\n{}", head, line, tail))).collect()
 }
 
+/// What every run compares behind its generated sheets: those at the limits, and each set of numbers that the
+/// 1,025th step can break at once.
+pub fn always() -> Vec<Vec<u8>> {
+    let full = format!("{}{}", HEAD_T, "M 0 0\n".repeat(1_024));
+    let mut list = boundaries();
+    for last in &[
+        "S 2 0", "P 0 1 0", "O 0 1 r0 1 0", "C 0 0 v0 v1", "P 0 2 1", "O 0 1 r0 2 0", "C 0 2 v0 v1",
+        "O 0 2 r0 1 r0 1 0", "O 0 2 r0 2 r0 2 0",
+    ] {
+        list.push(sheet(&format!("{}{}\n", full, last)));
+    }
+    list
+}
+
 /// Every sheet of the tables, and the sheets at the large limits.
 pub fn boundaries() -> Vec<Vec<u8>> {
     let mut list = line_sheets(HEAD, STEP_LINES, "");

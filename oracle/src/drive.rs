@@ -1,5 +1,6 @@
 //! Runs a product that speaks frames beside the oracle and compares all four answers.
 
+use crate::damage::always;
 use crate::frames::{answers, plain_old_answer, read_frame, write_frame, Answers, Old};
 use crate::generate::{generate, KINDS};
 use crate::plain::Wrong;
@@ -225,7 +226,7 @@ pub struct Plan {
     pub quiet: bool,
 }
 
-/// A sheet on which the sides differ.
+/// A sheet on which the sides differ; those that every run has are counted on behind the generated ones.
 pub struct Difference {
     pub index: u64,
     pub sheet: Vec<u8>,
@@ -239,20 +240,28 @@ fn old_of(plan: &Plan, index: u64) -> Old {
     }
 }
 
-/// Compares until the first difference or the end.
+/// Compares the generated sheets, then those that every run has, until the first difference or the end.
 pub fn compare(plan: &Plan, counts: &mut Counts) -> Result<Option<Difference>, String> {
     let started = Instant::now();
     let mut told = Instant::now();
+    let always = always();
+    let total = plan.sheets + always.len() as u64;
     let mut done = 0;
-    while done < plan.sheets {
+    while done < total {
         let mut kinds = Vec::new();
         let mut sheets = Vec::new();
         let mut bytes = 0;
-        while done + (sheets.len() as u64) < plan.sheets
+        while done + (sheets.len() as u64) < total
             && sheets.len() < BATCH_SHEETS
             && bytes < BATCH_BYTES
         {
-            let (kind, sheet) = generate(plan.seed, done + sheets.len() as u64);
+            let index = done + sheets.len() as u64;
+            let (kind, sheet) = if index < plan.sheets {
+                let (kind, sheet) = generate(plan.seed, index);
+                (Some(kind), sheet)
+            } else {
+                (None, always[(index - plan.sheets) as usize].clone())
+            };
             bytes += sheet.len();
             kinds.push(kind);
             sheets.push(sheet);
@@ -261,8 +270,9 @@ pub fn compare(plan: &Plan, counts: &mut Counts) -> Result<Option<Difference>, S
         let mut expected = Vec::new();
         for (at, sheet) in sheets.iter().enumerate() {
             expected.push(answers(sheet, old_of(plan, done + at as u64), Wrong::Nothing));
-            if plan.counts {
-                counts.add(kinds[at], sheet, &expected[at]);
+            // What every run has is left out of its counts.
+            if let (true, Some(kind)) = (plan.counts, kinds[at]) {
+                counts.add(kind, sheet, &expected[at]);
             }
         }
         let (given, ending) = running.finish();
@@ -279,9 +289,9 @@ pub fn compare(plan: &Plan, counts: &mut Counts) -> Result<Option<Difference>, S
             return Err("the product gave more answers than there were sheets".to_string());
         }
         done += sheets.len() as u64;
-        if !plan.quiet && (told.elapsed().as_secs() >= 5 || done == plan.sheets) {
+        if !plan.quiet && (told.elapsed().as_secs() >= 5 || done == total) {
             let rate = done as f64 / started.elapsed().as_secs_f64();
-            eprintln!("{} of {} sheets, {:.0} a second, 0 differences", done, plan.sheets, rate);
+            eprintln!("{} of {} sheets, {:.0} a second, 0 differences", done, total, rate);
             told = Instant::now();
         }
     }

@@ -37,7 +37,7 @@ use std::io::{self, Write};
 
 const USAGE: &str = "usage:
   oracle speak                       answers frames on standard input with four frames each
-  oracle drive N SEED COMMAND        compares COMMAND, which speaks frames, on N sheets
+  oracle drive N SEED COMMAND        compares COMMAND, which speaks frames, on N sheets and those of every run
   oracle self-test N SEED            the tests of the tests
   oracle sheet SEED INDEX            writes one generated sheet
   oracle timed SEED INDEX            writes one function that bench/ times
@@ -123,7 +123,8 @@ fn drive(sheets: u64, seed: u64, command: &str) -> Result<(), String> {
         None => {
             counts.print();
             let seconds = started.elapsed().as_secs();
-            println!("{} sheets, seed {}, {} s: 0 differences", sheets, seed, seconds);
+            let always = damage::always().len();
+            println!("{} sheets, seed {}, and {} of every run, {} s: 0 differences", sheets, seed, always, seconds);
             Ok(())
         }
         Some(found) => {

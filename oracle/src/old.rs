@@ -127,13 +127,13 @@ fn add(
 pub type Place = (usize, usize, u32);
 
 /// A sheet handed to the Rust, not yet run, and the place of each step by the number that it was given.
-pub struct Built {
+pub(crate) struct Built {
     pub checker: Checker,
     pub places: Vec<Place>,
 }
 
 /// Hands a read sheet to the Rust; the faults are those of a missing allocation.
-pub fn build(sheet: &Sheet) -> Result<Built, Vec<Fault>> {
+pub(crate) fn build(sheet: &Sheet) -> Result<Built, Vec<Fault>> {
     let universe = RealRegUniverse { regs: (0..sheet.regs).map(|n| (real(n), ())).collect() };
     let reftyped: Vec<VirtualReg> =
         sheet.reftyped.iter().map(|n| Reg::Virtual(*n).to_virtual_reg()).collect();
