@@ -20,28 +20,6 @@ use Rattle.steps.specs.Faults.{some-in}
 use Rattle.steps.specs.declared.Action.{Action}
 use Rattle.steps.specs.declared.Action.the-variants.{Spill, Reload, Move, Change, Operation, Safepoint}
 
--- an operand
-module _ (name reg : ℕ) (hn : name < 512) where
-  abbrev Holds : ℕ → Bool → Type 0
-  Holds v mark = (operand-of v ≡ record { name = name-of-word name; reg = register-of reg }) × (marked v ≡ mark) × (v / 1024 ≡ reg)
-
-  holds : (v : ℕ) → v % 512 ≡ name % 512 → v / 1024 ≡ reg → operand-of v ≡ record { name = name-of-word name; reg = register-of reg }
-  unfolding operand-of
-  holds v en er = rw (same-name v name en, er)
-
-  pub operand-marked : (mark : Bool) → mark ≡ true → Holds (reg * 1024 + 512 + name) mark
-  unfolding marked
-  operand-marked mark e =
-      let v : ℕ = reg * 1024 + 512 + name in
-      (holds v (omega arith) (omega arith), rw (e, eq-eqb (v / 512 % 2) 1 (omega arith)), omega arith)
-
-  pub operand-unmarked : (mark : Bool) → mark ≡ false → Holds (reg * 1024 + name) mark
-  unfolding marked
-  operand-unmarked mark e =
-      let v : ℕ = reg * 1024 + name in
-      let even : v / 512 % 2 ≡ 1 → ⊥ = omega arith in
-      (holds v (omega arith) (omega arith), rw (e, ne-eqb (v / 512 % 2) 1 even), omega arith)
-
 -- the last tag
 pub last-tag : (k t a b inst x y : ℕ) → (t ≡ 0 → ⊥) → (t ≡ 1 → ⊥) → (t ≡ 2 → ⊥) → (t ≡ 3 → ⊥) → (t ≡ 4 → ⊥) → Safepoint inst (x + y * 65536) ≡ action-of k t a b inst x y
 unfolding action-of

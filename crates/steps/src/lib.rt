@@ -14,9 +14,9 @@ ghost use Rattle.paper.specs.Steps as paper;
 ghost use Rattle.paper.specs.Report.{unallocated, missing-names, inst-of};
 ghost use Rattle.paper.specs.Limits.{max-regs, max-slots, max-steps};
 ghost use Rattle.layout.specs.Layout.{step-base, step-words, all-words};
-ghost use Rattle.cells.specs.Packed.{name-of-word, marked};
+ghost use Rattle.cells.specs.Packed.{name-of-word};
 ghost use Rattle.cells.specs.States.{state-of};
-ghost use Rattle.steps.specs.Actions.{register-of, operand-of, operands, step-of, action-at, steps-at, InRange, Honest, packed, Packs, RoomFor, Runnable, HonestSteps};
+ghost use Rattle.steps.specs.Actions.{operands, step-of, action-at, steps-at, InRange, Honest, packed, Packs, RoomFor, Runnable, HonestSteps};
 ghost use Rattle.steps.specs.Faults.{fault-of, some-in};
 ghost use Rattle.steps.specs.Checks.{is-error, use-error, change-error, slot-error, first-error, use-in, slot-in};
 ghost use Rattle.steps.specs.Defs.{define-word, define-words};
@@ -89,18 +89,6 @@ pub enum CheckerError {
     StackMapSpecifiesUndefinedSlot {
         slot: usize,
     },
-}
-
-// An operand as the lent words hold it: a name, a register or NO_REGISTER, and whether `T` lists the name.
-pub fn operand(name: u16, reg: u16, mark: bool) -> u16
-    requires { ⌜ (name < 512) × (reg < 64) ⌝ }
-    ensures { λ r. ⌜ (operand-of r ≡ record { name = name-of-word name; reg = register-of reg }) × (marked r ≡ mark) × (r / 1024 ≡ reg) ⌝ }
-{
-    if mark {
-        reg * 1024 + 512 + name
-    } else {
-        reg * 1024 + name
-    }
 }
 
 // A mask from its two halves.
