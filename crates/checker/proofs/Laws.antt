@@ -1,23 +1,23 @@
 -- From what the callees promise to what is said of a sheet, and from that to the paper's outcome.
 use mathlib.Core.Path.{_≡_, refl, sym, ap, _∙_, subst}
-use mathlib.Core.Bool.{Bool, true, false, cond, _||_, or-true}
-use mathlib.Core.List.{List, [], _∷_, _++_}
-use Prim.Native.Nat.{ℕ, _+_, _≤_, _<_}
+use mathlib.Core.Bool.{Bool, true, false, or-true}
+use mathlib.Core.List.{List, [], _∷_}
+use Prim.Native.Nat.{ℕ, _≤_, _<_}
 use native.Mathlib.Omega.{arith}
 use lib.Dec.{ltb}
-use lib.ListN.{length, drop, replicate, length-append, length-drop}
+use lib.ListN.{length, replicate}
 use borrow.Author.Tests.{lt-ltb, le-ltb}
 use Rattle.paper.specs.Text.{Bytes}
 use Rattle.paper.specs.Sheet.{Sheet}
-use Rattle.paper.specs.Limits.{report-size, words-size, queue-size, max-sheet, max-steps}
+use Rattle.paper.specs.Limits.{report-size, words-size, queue-size, max-steps}
 use Rattle.paper.specs.Refusals.{Reading, loaded, refused, read, step-count}
 use Rattle.paper.specs.Runs.{checked-from}
-use Rattle.paper.specs.Report.{Line, report-text, missing-allocations, find-errors, faults, first-list}
-use Rattle.paper.specs.Answer.{Said, accepted, faulty, turned-away, said-of, said-after, answer, written, Lent, too-short, laid, zeros, Outcome, outcome-of, outcome}
+use Rattle.paper.specs.Report.{Line, report-text, missing-allocations, faults}
+use Rattle.paper.specs.Answer.{Said, accepted, faulty, turned-away, said-of, said-after, answer, Lent, too-short, laid, zeros, Outcome, outcome-of, outcome}
 use Rattle.paper.specs.declared.Rule.{Rule}
 use Rattle.paper.specs.declared.Answer.{Answer}
-use Rattle.paper.specs.declared.Answer.the-variants.{Accepted, Faulty, Refused}
-use Rattle.layout.specs.Layout.{regs-word, slots-word, blocks-word, state-at}
+use Rattle.paper.specs.declared.Answer.the-variants.{Refused}
+use Rattle.layout.specs.Layout.{state-at}
 use Rattle.walks.specs.Reading.{read-few}
 use Rattle.sheet.specs.Loaded.{sheet-of, Loaded}
 use Rattle.sheet.specs.Reading.{loading-of, Load}
@@ -27,11 +27,11 @@ use Rattle.cells.specs.States.{stored-state}
 use Rattle.runs.specs.Stands.{Analysed, analysed-sheet, analysed-loaded}
 use Rattle.report.specs.Missing.{missing-lines, MissingOf}
 use Rattle.report.specs.declared.Missing.{Missing}
-use Rattle.report.specs.declared.Missing.the-variants.{Nothing, Found}
+use Rattle.report.specs.declared.Missing.the-variants.{Nothing}
 use Rattle.report.specs.Reported.{Checkable, answered, Reported}
 use Rattle.checker.specs.Checked.{Few, lent, answer-of, report-of, AnswerWithin, Answered, Checked, verdict-of, rule-of, Exported}
 use Rattle.checker.specs.declared.Verdict.{Verdict}
-use Rattle.checker.proofs.Refused.{Bounded, read-bounded}
+use Rattle.checker.proofs.Refused.{read-bounded}
 
 -- what `report` answers and writes is what is said of the lines
 said-answer : (rule : Rule) (ls : List Line) → answered rule ls ≡ answer-of (said-of rule ls)

@@ -1,10 +1,10 @@
 -- A refusal that reading gives has a number from 2 to 9, and a line that is at most one behind the last: each line is at least one
 -- byte of the sheet.
-use mathlib.Core.Path.{_≡_, refl, sym, ap}
+use mathlib.Core.Path.{_≡_, refl}
 use mathlib.Core.Bool.{Bool, true, false, cond, _||_}
 use mathlib.Core.List.{List, [], _∷_}
 use mathlib.Core.Option.{Option, none, some}
-use Prim.Native.Nat.{ℕ, suc, zero, _+_, _≤_}
+use Prim.Native.Nat.{ℕ, suc, _+_, _≤_}
 use native.Mathlib.Omega.{arith}
 use lib.Dec.{eqb, ltb}
 use lib.ListN.{length}
@@ -12,7 +12,7 @@ use borrow.Author.Tests.{ltb-false}
 use Rattle.paper.specs.Text.{Bytes, line-feed, fields, onto-first, parts, lines}
 use Rattle.paper.specs.Sheet.{Sheet}
 use Rattle.paper.specs.Limits.{max-sheet}
-use Rattle.paper.specs.Refusals.{Record, record-of, empty, Condition, first-holding, conditions, Reading, loaded, refused, Lined, good, bad, judged, read-record, read-line, read-end, carry-on, read-lines, no-text, read}
+use Rattle.paper.specs.Refusals.{Record, record-of, empty, Condition, first-holding, conditions, loaded, refused, Lined, good, bad, judged, read-record, read-line, read-end, carry-on, read-lines, no-text, read}
 
 -- the numbers that a refusal can have, and its line, where reading goes on from `line` with n lines
 pub record Bounded (line n number at : ℕ) : Type 0 where

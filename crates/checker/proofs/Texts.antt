@@ -3,7 +3,7 @@ use mathlib.Core.Path.{_≡_, refl, ap, _∙_, subst}
 use mathlib.Core.Bool.{Bool, true, false, _||_}
 use mathlib.Core.Logic.{_⊎_, ⊎-elim}
 use mathlib.Core.List.{List, [], _∷_, _++_, append-assoc}
-use Prim.Native.Nat.{ℕ, _+_, _≤_}
+use Prim.Native.Nat.{ℕ, _≤_}
 use native.Mathlib.Omega.{arith}
 use lib.Dec.{ltb}
 use lib.ListN.{length, drop, length-append}
@@ -19,7 +19,7 @@ use Rattle.paper.specs.declared.Rule.{Rule}
 use Rattle.paper.specs.declared.Answer.{Answer}
 use Rattle.paper.specs.declared.Answer.the-variants.{Accepted, Faulty, Refused}
 use Rattle.report.specs.Reported.{wrote-laid}
-use Rattle.checker.specs.Checked.{lent, refusal-text, AnswerWithin, Checked, text-of, lent-behind, Texted}
+use Rattle.checker.specs.Checked.{lent, refusal-text, Checked, text-of, lent-behind, Texted}
 use Rattle.checker.proofs.Refused.{read-bounded}
 
 pub digits-short : (n : ℕ) → n ≤ 65537 → length (digits n) ≤ 5

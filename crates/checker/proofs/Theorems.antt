@@ -8,9 +8,9 @@ use native.Mathlib.Omega.{arith}
 use Rattle.paper.specs.Text.{Bytes}
 use Rattle.paper.specs.Answer.{Said, accepted, faulty, turned-away, answer, Lent, too-short, Outcome, outcome-of, outcome}
 use Rattle.paper.specs.declared.Rule.{Rule}
-use Rattle.paper.specs.declared.Rule.the-variants.{Old, House}
+use Rattle.paper.specs.declared.Rule.the-variants.{House}
 use Rattle.paper.specs.declared.Answer.{Answer}
-use Rattle.paper.specs.declared.Answer.the-variants.{Accepted, Faulty, Refused}
+use Rattle.paper.specs.declared.Answer.the-variants.{Accepted, Refused}
 use Rattle.walks.specs.Theorems.{AcceptedBytes, accepted-bytes}
 use Rattle.checker.specs.Checked.{Checked, Texted, Exported}
 use Rattle.checker.specs.declared.Verdict.{Verdict}

@@ -1,14 +1,13 @@
 -- What a call leaves behind, against the paper's `outcome`: the answer and the three lent buffers in one equation.
 use mathlib.Core.Path.{_≡_}
 use mathlib.Core.Bool.{Bool, true, false, cond}
-use mathlib.Core.List.{List, [], _∷_}
+use mathlib.Core.List.{List, []}
 use Prim.Native.Nat.{ℕ, _+_, _≤_}
 use lib.ListN.{length}
 use Rattle.paper.specs.Text.{Bytes}
 use Rattle.paper.specs.Limits.{report-size, max-sheet, max-steps}
 use Rattle.paper.specs.Refusals.{step-count}
-use Rattle.paper.specs.Report.{Line, report-text}
-use Rattle.paper.specs.Answer.{Said, accepted, faulty, turned-away, said-of, answer, written, Lent, too-short, laid, zeros, Outcome, outcome}
+use Rattle.paper.specs.Answer.{Said, accepted, faulty, turned-away, answer, written, Lent, too-short, laid, zeros, Outcome, outcome}
 use Rattle.sheet.specs.Loaded.{sheet-of}
 use Rattle.paper.specs.declared.Rule.{Rule}
 use Rattle.paper.specs.declared.Rule.the-variants.{Old, House}

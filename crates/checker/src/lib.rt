@@ -4,7 +4,6 @@ ghost use Prim.Native.Nat.{_≤_};
 ghost use lib.ListN.{length};
 ghost use Rattle.lists.specs.Sets.{Wrote};
 ghost use Rattle.paper.specs.Limits.{report-size, words-size, queue-size};
-ghost use Rattle.paper.specs.Refusals.{step-count};
 ghost use Rattle.paper.specs.Report.{faults};
 ghost use Rattle.paper.specs.Answer as paper-answer;
 ghost use Rattle.sheet.specs.Loaded.{sheet-of, Loaded};

@@ -8,12 +8,11 @@ use lib.ListN.{length, getD, set}
 use lib.Seq.{getD-set-same, set-set}
 use Rattle.lists.specs.Over.{over, front-step}
 use mir.Syntax.{Width}
-use mir.Val.{Val, Fits}
+use mir.Val.{Val}
 use denote.Laws.{Is}
 use denote.Plain.{UInt}
 use denote.Array.{Array, each}
 use denote.Shadow.{shadow}
-use borrow.Author.Needs.{elem-fits}
 
 each-length : (w : Width) (n : ℕ) (s : List (List ℕ)) (us : List Val) → shadow (each (List ℕ) (Array (UInt w) n .own) s us) → (r : ℕ) → r < length s → length (getD s r []) ≡ n
 each-length w n [] us p r h = absurd (not-suc-le-zero h)

@@ -7,7 +7,6 @@ use Prim.Native.Nat.{ℕ}
 use lib.Dec.{ltb}
 use lib.ListN.{length, drop, replicate}
 use Rattle.paper.specs.Text.{Bytes, digits}
-use Rattle.paper.specs.Sheet.{Sheet}
 use Rattle.paper.specs.Limits.{report-size, words-size, queue-size}
 use Rattle.paper.specs.Refusals.{Reading, loaded, refused, read}
 use Rattle.paper.specs.Report.{Line, behind-tabs, faults, report-text}

@@ -1,14 +1,14 @@
 -- Document 01, "Old run", "House run", "Unreached blocks": "Take a block, run its steps, and for each successor in listed order
 -- meet the result into its entry state; when a cell changes .. store and append the successor, also if already waiting."
 -- The two runs share this shape; they differ in the rule and in what holds a state at the start.
-use mathlib.Core.Path.{_≡_, refl, sym, ap}
+use mathlib.Core.Path.{_≡_, refl, sym}
 use mathlib.Core.HLevel.{Discrete}
 use mathlib.Core.List.{List, [], _∷_, _++_, nil≢cons}
 use mathlib.Core.Option.{Option, none, some}
 use Prim.Native.Nat.{ℕ, suc, zero, _+_, _*_}
 use native.Mathlib.Decide.{ℕ-discrete}
 use Rattle.paper.specs.Sheet.{Sheet, succs-of, steps-of, reference-typed}
-use Rattle.paper.specs.Cells.{Cell, cell-same, pick, meet}
+use Rattle.paper.specs.Cells.{cell-same, pick, meet}
 use Rattle.paper.specs.Steps.{State, entry-state, unreached-state, effects}
 use Rattle.paper.specs.declared.Rule.{Rule}
 use Rattle.paper.specs.declared.Rule.the-variants.{Old, House}

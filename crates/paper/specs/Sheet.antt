@@ -1,8 +1,8 @@
 -- Document 01, "The sheet": what a sheet says once it is read. `F` gives the counts, `T` the reference-typed names, each `B`
 -- a block with its successors, and the lines behind it the block's steps, all in the sheet's own order.
-use mathlib.Core.Bool.{Bool, true, false, _||_}
-use mathlib.Core.List.{List, [], _∷_, map}
-use mathlib.Core.Option.{Option, none, some}
+use mathlib.Core.Bool.{Bool, false, _||_}
+use mathlib.Core.List.{List, [], _∷_}
+use mathlib.Core.Option.{Option}
 use Prim.Native.Nat.{ℕ}
 use lib.Dec.{eqb}
 use lib.ListN.{getD}

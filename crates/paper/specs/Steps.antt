@@ -5,8 +5,8 @@ use mathlib.Core.List.{List, [], _∷_, map}
 use mathlib.Core.Option.{Option, none, some}
 use Prim.Native.Nat.{ℕ, zero, suc}
 use lib.ListN.{getD, set, replicate}
-use Rattle.paper.specs.Text.{Name, real, virtual, name-same}
-use Rattle.paper.specs.Sheet.{Operand, Step, spill, reload, move, change, operation, safepoint, Sheet, listed, reference-typed}
+use Rattle.paper.specs.Text.{Name, real, name-same}
+use Rattle.paper.specs.Sheet.{Operand, Step, spill, reload, move, change, operation, safepoint, Sheet, listed}
 use Rattle.paper.specs.Cells.{Cell, absent, unknown, conflicted, named, pick, copied, overwritten, house-changed, old-changed, collected}
 use Rattle.paper.specs.declared.Rule.{Rule}
 use Rattle.paper.specs.declared.Rule.the-variants.{Old, House}

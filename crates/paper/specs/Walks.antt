@@ -4,7 +4,7 @@
 use mathlib.Core.Path.{_≡_}
 use mathlib.Core.Bool.{Bool}
 use mathlib.Core.List.{List, [], _∷_, _++_}
-use mathlib.Core.Option.{Option, none, some}
+use mathlib.Core.Option.{none}
 use Prim.Native.Nat.{ℕ, _<_}
 use Rattle.paper.specs.Text.{Name}
 use Rattle.paper.specs.Sheet.{Step, spill, reload, move, change, operation, safepoint, Sheet, steps-of, reference-typed}

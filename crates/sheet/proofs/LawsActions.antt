@@ -1,26 +1,11 @@
 -- An action that `records` has judged can be the next step.
-use mathlib.Core.Path.{_≡_, refl, sym, ap, _∙_}
-use mathlib.Core.Bool.{Bool, true, false, _||_}
-use mathlib.Core.Logic.{_⊎_, inl, inr}
-use mathlib.Core.List.{List, [], _∷_, map}
-use mathlib.Core.Option.{Option, some}
-use Prim.Native.Nat.{ℕ, _+_, _*_, _/_, _^_, _≤_, _<_}
-use native.Mathlib.Nat.{add-zero, zero-add}
+use mathlib.Core.List.{List}
+use Prim.Native.Nat.{ℕ, _^_, _<_}
 use native.Mathlib.Omega.{arith}
-use borrow.Author.Tests.{eqb-true, eqb-false}
-use lib.Dec.{eqb, leb, ltb}
-use lib.ListN.{length, getD, take, drop}
-use Rattle.lists.specs.Split.{by-test}
-use Rattle.paper.specs.Text.{Bytes}
-use Rattle.paper.specs.Sheet.{Sheet, safepoint}
-use Rattle.paper.specs.Limits.{max-inst}
-use Rattle.paper.specs.Refusals.{Record, step-record, any, beyond-limit, out-of-order, real-elsewhere, types-differ, step-beyond}
-use Rattle.records.specs.Records.{lowest, verdict, Told}
-use Rattle.lists.specs.Bits.{set-bits}
-use Rattle.layout.specs.Layout.{regs-word, slots-word, steps-word, operand-base, defs-from, operand-words, all-words}
-use Rattle.steps.specs.declared.Action.the-variants.{Spill, Reload, Move, Change, Operation, Safepoint}
-use Rattle.sheet.specs.Loaded.{sheet-of}
-use Rattle.sheet.specs.Reading.{Progress, Fits, counts-of}
+use lib.ListN.{getD}
+use Rattle.layout.specs.Layout.{regs-word, slots-word}
+use Rattle.steps.specs.declared.Action.the-variants.{Spill, Reload, Move, Change, Safepoint}
+use Rattle.sheet.specs.Reading.{Progress, Fits}
 use Rattle.sheet.proofs.LawsProgress.{counts-within}
 
 module _ (l : List ℕ) (p : Progress l) where

@@ -1,20 +1,16 @@
 -- What `F` and `T` store: the header and the typed names, before any block.
 use mathlib.Core.Path.{_≡_, refl, sym, ap, _∙_}
-use mathlib.Core.Bool.{true, false}
+use mathlib.Core.Bool.{true}
 use mathlib.Core.List.{List, [], _∷_, _++_}
-use Prim.Native.Nat.{ℕ, zero, suc, _+_, _≤_, _<_}
-use native.Mathlib.Nat.{zero-add, not-suc-le-zero}
+use Prim.Native.Nat.{ℕ, suc, _+_, _≤_, _<_}
+use native.Mathlib.Nat.{not-suc-le-zero}
 use native.Mathlib.Omega.{arith}
-use borrow.Author.Tests.{le-leb, eq-eqb}
-use lib.Dec.{eqb, leb}
-use lib.ListN.{length, getD, set, take, drop, length-set, length-drop}
-use lib.Seq.{sets, sets-eq, length-sets, drop-drop, getD-set-same, getD-set-other, take-set-lt, drop-set-lt, drop-set-add}
+use borrow.Author.Tests.{le-leb}
+use lib.ListN.{length, getD, set, drop, length-set, length-drop}
+use lib.Seq.{sets, sets-eq, drop-drop, getD-set-same, getD-set-other, take-set-lt, drop-set-lt, drop-set-add}
 use Rattle.lists.specs.Region.{region, length-region, getD-region}
-use Rattle.lists.specs.Split.{by-order}
-use Rattle.paper.specs.Sheet.{Sheet}
-use Rattle.paper.specs.Limits.{max-regs, max-slots, max-vregs, max-blocks}
 use Rattle.paper.specs.Refusals.{function-record, typed-record, add-record, ascending, step-count}
-use Rattle.layout.specs.Layout.{vregs-word, opened-word, steps-word, least-word, begun-word, typed-base, typed-words, block-base, all-words}
+use Rattle.layout.specs.Layout.{vregs-word, opened-word, steps-word, least-word, begun-word, typed-base, typed-words}
 use Rattle.records.specs.Records.{FunctionWithin}
 use Rattle.sheet.specs.Loaded.{blocks-at, marked-from, sheet-of, Bounds}
 use Rattle.sheet.specs.Reading.{Blank, Begun, Stored}

@@ -3,22 +3,21 @@
 use mathlib.Core.Path.{_≡_, refl, sym, ap, _∙_}
 use mathlib.Core.Bool.{Bool, true, false, cond}
 use mathlib.Core.List.{List, [], _∷_}
-use mathlib.Core.Option.{Option, none, some, Option·map}
-use Prim.Native.Nat.{ℕ, zero, suc, _+_, _≤_, _<_}
+use mathlib.Core.Option.{Option, none, some}
+use Prim.Native.Nat.{ℕ, _+_, _≤_}
 use native.Mathlib.Omega.{arith}
-use borrow.Author.Tests.{eq-eqb, ne-eqb, eqb-true, eqb-false}
+use borrow.Author.Tests.{ne-eqb, eqb-true, eqb-false}
 use lib.Dec.{eqb, leb}
 use lib.ListN.{length}
 use Rattle.lists.specs.Split.{by-test}
 use Rattle.paper.specs.Text.{Bytes, number-of, name-of}
-use Rattle.paper.specs.Sheet.{Sheet, Step, change, operation, safepoint}
+use Rattle.paper.specs.Sheet.{Sheet, Step, safepoint}
 use Rattle.paper.specs.Limits.{max-succs}
-use Rattle.paper.specs.Refusals.{Record, function-record, typed-record, block-record, step-record, Read, _>>=_, next, ended, numbers-of, function-of, typed-of, block-of, two-numbers-of, change-of, counted-operands-of, operation-of, safepoint-of, out-of-place, beyond-limit, out-of-order, real-elsewhere, types-differ, step-too-many, so-far-of, Condition, first-holding, conditions, add-record, good, bad, judged, read-record}
+use Rattle.paper.specs.Refusals.{Record, function-record, typed-record, block-record, step-record, _>>=_, next, ended, numbers-of, function-of, typed-of, block-of, two-numbers-of, change-of, counted-operands-of, operation-of, safepoint-of, out-of-place, beyond-limit, out-of-order, real-elsewhere, types-differ, step-too-many, so-far-of, first-holding, conditions, add-record, good, bad, judged, read-record}
 use Rattle.paper.specs.Refusals as paper
-use Rattle.fields.specs.Fields.{line-end}
 use Rattle.records.specs.Records.{lowest, verdict, Told}
 use Rattle.sheet.specs.Loaded.{sheet-of, so-far}
-use Rattle.sheet.specs.Reading.{lowest-of, lined-of, Alike, Stored, GoodLine, LineRead, begun}
+use Rattle.sheet.specs.Reading.{lowest-of, lined-of, Alike, Stored, LineRead, begun}
 use Rattle.sheet.specs.declared.Lined.the-variants as lined
 
 -- ---- numbers

@@ -1,21 +1,20 @@
 -- A line by its letter: the fields behind the letter are read by the letter's own reader.
-use mathlib.Core.Path.{_≡_, refl, sym, ap, _∙_}
-use mathlib.Core.Bool.{Bool, true, false, _||_, true≢false}
+use mathlib.Core.Path.{_≡_, refl, sym, _∙_}
+use mathlib.Core.Bool.{false, true≢false}
 use mathlib.Core.List.{List, [], _∷_}
-use mathlib.Core.Option.{Option, none, some}
-use Prim.Native.Nat.{ℕ, suc, _+_, _-_, _≤_, _<_}
+use mathlib.Core.Option.{Option, none}
+use Prim.Native.Nat.{ℕ, _+_, _<_}
 use native.Mathlib.Omega.{arith}
 use borrow.Author.Tests.{ne-eqb}
 use lib.Dec.{eqb}
-use lib.ListN.{length, getD, drop}
+use lib.ListN.{length, getD}
 use Rattle.lists.specs.Split.{by-test}
-use Rattle.paper.specs.Text.{Bytes, tab, line-feed, fields}
-use Rattle.paper.specs.Refusals.{Record, one-byte, by-letter, record-of, read-record, good, bad}
-use Rattle.fields.specs.Fields.{ends-line, ends-field, until, line-at, field-at, line-end, field-end, fields-behind}
+use Rattle.paper.specs.Text.{Bytes, tab, fields}
+use Rattle.paper.specs.Refusals.{Record, one-byte, by-letter, record-of, read-record}
+use Rattle.fields.specs.Fields.{ends-line, ends-field, line-at, field-at, line-end, field-end, fields-behind}
 use Rattle.fields.specs.Cursor.{until-more, fields-at, field-ended}
 use Rattle.records.specs.Records.{Behind}
-use Rattle.sheet.specs.Loaded.{so-far}
-use Rattle.sheet.specs.Reading.{SheetText, lined-of, GoodLine, LineRead}
+use Rattle.sheet.specs.Reading.{SheetText, lined-of, LineRead}
 use Rattle.sheet.specs.declared.Lined as Lined
 use Rattle.sheet.specs.declared.Lined.the-variants as lined
 use Rattle.sheet.proofs.LawsText.{letter-none, not-last}

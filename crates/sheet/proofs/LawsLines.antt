@@ -1,6 +1,6 @@
 -- A line of each kind, from what `records` tells of it: refused by its number, or accepted and stored.
-use mathlib.Core.Path.{_≡_, refl, sym, ap, _∙_}
-use mathlib.Core.Bool.{Bool, true, false, not, _||_}
+use mathlib.Core.Path.{_≡_, refl}
+use mathlib.Core.Bool.{false, not, _||_}
 use mathlib.Core.List.{List}
 use mathlib.Core.Option.{Option}
 use Prim.Native.Nat.{ℕ, _+_, _≤_, _<_}
@@ -10,7 +10,7 @@ use lib.ListN.{length, getD}
 use Rattle.paper.specs.Text.{Bytes}
 use Rattle.paper.specs.Sheet.{Sheet, Step}
 use Rattle.paper.specs.Limits.{max-sheet, max-steps}
-use Rattle.paper.specs.Refusals.{Record, function-record, typed-record, block-record, step-record, function-of, typed-of, block-of, out-of-place, step-too-many}
+use Rattle.paper.specs.Refusals.{Record, function-record, typed-record, block-record, step-record, function-of, typed-of, block-of, step-too-many}
 use Rattle.layout.specs.Layout.{blocks-word, opened-word, steps-word, begun-word}
 use Rattle.records.specs.Records.{Told}
 use Rattle.sheet.specs.Loaded.{sheet-of}

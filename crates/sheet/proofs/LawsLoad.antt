@@ -1,32 +1,31 @@
 -- The lines of a sheet, one after the other, and its end.
 use mathlib.Core.Path.{_≡_, refl, sym, ap, _∙_}
-use mathlib.Core.Bool.{Bool, true, false, cond, not, _||_, true≢false}
-use mathlib.Core.List.{List, [], _∷_, _++_}
-use mathlib.Core.Option.{Option, none, some}
+use mathlib.Core.Bool.{true, false, _||_, true≢false}
+use mathlib.Core.List.{List, _++_}
+use mathlib.Core.Option.{some}
 use Prim.Native.Nat.{ℕ, suc, _+_, _≤_, _<_}
 use native.Mathlib.Numerals.{add-one}
 use native.Mathlib.Omega.{arith}
-use borrow.Author.Tests.{ltb-false, ltb-true, eqb-true, eqb-false, le-ltb, lt-ltb, eq-eqb}
+use borrow.Author.Tests.{ltb-false}
 use lib.Dec.{eqb, ltb}
 use lib.ListN.{length, getD, take, drop, replicate, length-append, length-drop, length-replicate, List·getD-append, getD-replicate}
 use lib.Seq.{length-take-le}
-use Rattle.lists.specs.Split.{by-test}
 use Rattle.paper.specs.Text.{Bytes, lines, fields}
 use Rattle.paper.specs.Sheet.{Sheet}
-use Rattle.paper.specs.Refusals.{Reading, loaded, refused, good, bad, record-of, read-record, read-line, read-end, carry-on, read-lines, no-text, read}
+use Rattle.paper.specs.Refusals.{loaded, refused, good, bad, record-of, read-record, read-line, read-end, carry-on, read-lines, no-text, read}
 use Rattle.paper.specs.Refusals as paper
 use Rattle.layout.specs.Layout.{blocks-word, opened-word, begun-word, block-base, all-words}
 use Rattle.fields.specs.Fields.{line-at, line-end}
 use Rattle.fields.specs.Cursor.{lines-at, lines-past}
-use Rattle.sheet.specs.Loaded.{blocks-at, sheet-of, so-far, Loaded}
-use Rattle.sheet.specs.Reading.{Blank, Progress, lined-of, GoodLine, LineRead, loading-of, Load}
+use Rattle.sheet.specs.Loaded.{sheet-of, so-far, Loaded}
+use Rattle.sheet.specs.Reading.{Blank, Progress, lined-of, LineRead, loading-of, Load}
 use Rattle.sheet.specs.Reading as reading
 use Rattle.sheet.specs.declared.Lined as Lined
 use Rattle.sheet.specs.declared.Lined.the-variants as lined
 use Rattle.sheet.specs.declared.Loading as Loading
 use Rattle.sheet.specs.declared.Loading.the-variants as loading
 use Rattle.sheet.specs.Blocks.{length-blocks}
-use Rattle.sheet.proofs.LawsProgress.{so-far-blank, so-far-begun, begun-of}
+use Rattle.sheet.proofs.LawsProgress.{so-far-blank, so-far-begun}
 
 -- what is still to be read, from the line at `at` on, gives what the sheet gives
 pub record Ahead (sheet : Bytes) (at line : ℕ) (words₀ words : List ℕ) : Type 0 where

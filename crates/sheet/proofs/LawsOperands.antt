@@ -1,24 +1,19 @@
 -- The operands of the next step, stored before the step stands: nothing that was read changes, and the action finds them there.
-use mathlib.Core.Path.{_≡_, refl, sym, ap, ap₂, _∙_}
-use mathlib.Core.Bool.{Bool, true, false}
-use mathlib.Core.Logic.{_⊎_, inl, inr}
-use mathlib.Core.List.{List, [], _∷_, map}
-use mathlib.Core.Option.{Option, none, some}
-use Prim.Native.Nat.{ℕ, _+_, _*_, _/_, _≤_, _<_}
+use mathlib.Core.Path.{_≡_, sym, ap, _∙_}
+use mathlib.Core.List.{List, map}
+use mathlib.Core.Option.{Option, some}
+use Prim.Native.Nat.{ℕ, _+_, _*_, _≤_, _<_}
 use native.Mathlib.Nat.{add-zero, zero-add}
 use native.Mathlib.Omega.{arith}
-use borrow.Author.Tests.{eqb-true, eqb-false}
-use lib.Dec.{eqb}
-use lib.ListN.{length, getD, take, drop}
+use lib.ListN.{length, getD}
 use lib.Seq.{ext-getD}
 use Rattle.lists.specs.Over.{over, length-over, getD-over-in, getD-over-below}
 use Rattle.lists.specs.Region.{region, length-region, getD-region}
-use Rattle.lists.specs.Split.{by-test}
 use Rattle.paper.specs.Text.{Bytes}
-use Rattle.paper.specs.Sheet.{Operand, Sheet, operation, reference-typed}
-use Rattle.paper.specs.Refusals.{Record, step-record}
-use Rattle.paper.specs.Limits.{max-steps, max-operands}
-use Rattle.layout.specs.Layout.{regs-word, opened-word, steps-word, block-base, block-words, step-base, operand-base, defs-from, operand-words, all-words}
+use Rattle.paper.specs.Sheet.{Sheet, operation}
+use Rattle.paper.specs.Refusals.{Record}
+use Rattle.paper.specs.Limits.{max-operands}
+use Rattle.layout.specs.Layout.{regs-word, opened-word, steps-word, block-base, block-words, operand-base, defs-from, operand-words}
 use Rattle.records.specs.Records.{GroupWithin}
 use Rattle.steps.specs.Actions.{operand-of, operands, step-of}
 use Rattle.steps.specs.declared.Action.the-variants.{Operation}

@@ -1,22 +1,21 @@
 -- How far reading has come, in the paper's words: the sheet so far, the place of a line, and what a line is held against.
-use mathlib.Core.Path.{_≡_, refl, sym, ap, _∙_}
-use mathlib.Core.Bool.{Bool, true, false, cond, not, _||_}
-use mathlib.Core.List.{List, [], _∷_, _++_}
-use mathlib.Core.Option.{Option, none, some}
-use Prim.Native.Nat.{ℕ, zero, suc, _+_, _≤_, _<_}
+use mathlib.Core.Path.{_≡_, refl, sym}
+use mathlib.Core.Bool.{not, _||_}
+use mathlib.Core.List.{List}
+use mathlib.Core.Option.{none, some}
+use Prim.Native.Nat.{ℕ, zero, suc, _≤_, _<_}
 use native.Mathlib.Omega.{arith}
-use borrow.Author.Tests.{eq-eqb, ne-eqb, eqb-true, eqb-false, leb-false}
+use borrow.Author.Tests.{ne-eqb}
 use lib.Dec.{eqb, leb}
 use lib.ListN.{length, getD}
-use Rattle.lists.specs.Region.{region, getD-region}
-use Rattle.lists.specs.Split.{by-test}
-use Rattle.paper.specs.Sheet.{Sheet, Step}
-use Rattle.paper.specs.Limits.{max-regs, max-slots, max-vregs, max-blocks, max-steps}
-use Rattle.paper.specs.Refusals.{Record, function-record, typed-record, block-record, step-record, empty, out-of-place, step-too-many, step-count, blank, so-far-of, ascending}
-use Rattle.layout.specs.Layout.{regs-word, slots-word, vregs-word, blocks-word, opened-word, steps-word, least-word, begun-word, typed-base, typed-words, block-base, all-words}
+use Rattle.lists.specs.Region.{region}
+use Rattle.paper.specs.Sheet.{Step}
+use Rattle.paper.specs.Limits.{max-steps}
+use Rattle.paper.specs.Refusals.{function-record, typed-record, block-record, step-record, empty, out-of-place, step-too-many, step-count, blank, so-far-of}
+use Rattle.layout.specs.Layout.{blocks-word, opened-word, steps-word, least-word, begun-word, typed-base, typed-words, all-words}
 use Rattle.records.specs.Records.{Counted, CountsWithin, TypedBy, Least}
 use Rattle.records.specs.declared.Counts.{Counts}
-use Rattle.sheet.specs.Loaded.{blocks-at, marked-from, sheet-of, so-far}
+use Rattle.sheet.specs.Loaded.{blocks-at, sheet-of, so-far}
 use Rattle.sheet.specs.Reading.{Blank, Begun, Progress, counts-of}
 use Rattle.sheet.specs.Reading as reading
 use Rattle.sheet.proofs.LawsTyped.{listed-marked, ascending-one}

@@ -9,7 +9,6 @@ use lib.Dec.{eqb}
 use lib.ListN.{length, getD}
 use Rattle.lists.specs.Region.{region}
 use Rattle.paper.specs.Sheet.{Block, Sheet, reference-typed}
-use Rattle.paper.specs.Refusals.{Reading, loaded, refused}
 use Rattle.paper.specs.Limits.{max-regs, max-slots, max-vregs, max-blocks, max-succs, max-steps}
 use Rattle.layout.specs.Layout.{regs-word, slots-word, vregs-word, blocks-word, entry-word, opened-word, steps-word, begun-word, typed-base, typed-words, block-base, step-total-word, succ-total-word, block-words, succ-base, all-words}
 use Rattle.steps.specs.Actions.{action-at, steps-at, Ranged, Honest}

@@ -1,21 +1,17 @@
 // The sheet reader: bytes to loaded words, or the refusal with its number and line. One pass from line to line: `records` reads
 // a line and judges it by itself; here it is held against its place (4) and the count of steps (9), and stored.
 ghost use mathlib.Core.Path.{_≡_};
-ghost use mathlib.Core.Bool.{Bool};
-ghost use mathlib.Core.List.{List, [], _∷_};
-ghost use mathlib.Core.Option.{Option};
 ghost use Prim.Native.Nat.{ℕ, _+_, _*_, _≤_, _<_};
-ghost use lib.ListN.{length, getD, set, take};
+ghost use lib.ListN.{length, getD, take};
 ghost use Rattle.lists.specs.Over.{over};
-ghost use Rattle.paper.specs.Text.{line-feed, fields};
+ghost use Rattle.paper.specs.Text.{fields};
 ghost use Rattle.paper.specs.Sheet.{spill, reload, move};
 ghost use Rattle.paper.specs.Limits.{max-steps, max-succs, words-size};
 ghost use Rattle.paper.specs.Refusals.{function-record, typed-record, block-record, step-record, one-byte, function-of, typed-of, block-of, two-numbers-of, change-of, operation-of, safepoint-of, record-of, no-text};
-ghost use Rattle.layout.specs.Layout.{vregs-word, blocks-word, opened-word, steps-word, least-word, block-base, operand-words, all-words};
+ghost use Rattle.layout.specs.Layout.{vregs-word, blocks-word, opened-word, steps-word, least-word, operand-words, all-words};
 ghost use Rattle.fields.specs.Fields.{field-at, line-at, fields-behind};
 ghost use Rattle.records.specs.Records.{Behind, FunctionWithin, BlockWithin};
 ghost use Rattle.steps.specs.Actions.{step-of};
-ghost use Rattle.sheet.specs.Loaded.{sheet-of};
 ghost use Rattle.sheet.specs.Reading.{SheetText, Blank, Begun, Progress, counts-of, Fits, lowest-of, Stored, LineRead, StepLined, number-of-line, Load};
 use layout::BEGUN_WORD;
 use layout::BLOCK_BASE;

@@ -1,6 +1,6 @@
 -- Operands and actions in words: what is written is read back.
 use mathlib.Core.Path.{_≡_, refl, sym, ap, _∙_}
-use mathlib.Core.Bool.{Bool, true, false}
+use mathlib.Core.Bool.{true, false}
 use mathlib.Core.List.{List, [], _∷_}
 use Prim.Native.Nat.{ℕ, zero, suc, _+_, _-_, _*_, _/_, _%_, _≤_, _<_}
 use native.Mathlib.Nat.{add-zero}
@@ -13,8 +13,6 @@ use Rattle.lists.specs.Kept.{Kept, kept-over}
 use Rattle.paper.specs.Report.{unallocated, first-list}
 use Rattle.paper.specs.Limits.{max-steps}
 use Rattle.layout.specs.Layout.{step-base, step-words, all-words}
-use Rattle.cells.specs.Packed.{name-of-word, marked}
-use Rattle.cells.specs.Laws.{same-name}
 use Rattle.steps.specs.Actions.{no-register, register-of, operand-of, operands, action-of, action-at, packed, Packs}
 use Rattle.steps.specs.Faults.{some-in}
 use Rattle.steps.specs.declared.Action.{Action}

@@ -1,5 +1,4 @@
 -- `checker::answer_text` meets its contract: a report stands already, a refusal is written over nothing.
-use native.Mathlib.Omega.{arith}
 use mathlib.Core.Logic.{inl, inr}
 use Rattle.checker.proofs.Texts.{texted, texted-short, room, texted-refusal}
 use borrow.Author.Needs.{needs}

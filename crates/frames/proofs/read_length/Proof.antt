@@ -2,7 +2,6 @@
 use Rattle.frames.proofs.read_length.Statement.{statement}
 use Rattle.frames.proofs.read_length.Tie as tie
 use Prim.Native.Nat.{_<_, _≤_, _-_}
-use native.Mathlib.Omega.{arith}
 use borrow.Author.Needs.{needs}
 
 abbrev Inv-loop : tie.InvT-loop

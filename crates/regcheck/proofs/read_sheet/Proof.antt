@@ -1,8 +1,7 @@
 -- `regcheck::read_sheet` meets its contract: no more is counted than there is room, and the room that is left shrinks.
 use Prim.Native.Nat.{_≤_, _-_}
 use mathlib.Core.Path.{_≡_}
-use native.Mathlib.Omega.{arith}
-use lib.ListN.{length, length-drop}
+use lib.ListN.{length}
 use borrow.Author.Needs.{needs}
 use Rattle.regcheck.proofs.read_sheet.Statement.{statement}
 use Rattle.regcheck.proofs.read_sheet.Tie as tie

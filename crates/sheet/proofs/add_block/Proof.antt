@@ -6,7 +6,6 @@ use Rattle.lists.specs.Over.{length-over}
 use Rattle.layout.specs.Layout.{opened-word}
 use Rattle.sheet.proofs.LawsBody.{block-stored, block-written}
 use native.Mathlib.Omega.{arith}
-use mathlib.Core.Path.{refl}
 use lib.ListN.{length-set}
 use borrow.Author.Needs.{needs}
 use Rattle.sheet.proofs.add_block.Statement.{statement}

@@ -1,6 +1,6 @@
 use mathlib.Core.Path.{_≡_}
 use Prim.Native.Nat.{ℕ, _+_, _-_, _*_}
-use lib.ListN.{length, getD}
+use lib.ListN.{getD}
 use Rattle.sheet.proofs.LawsBody.{step-stored, step-written}
 use native.Mathlib.Omega.{arith}
 use mathlib.Core.Path.{refl}

@@ -1,7 +1,4 @@
-use mathlib.Core.Path.{_≡_, sym}
-use mathlib.Core.Bool.{true, false}
-use native.Mathlib.Omega.{arith}
-use lib.ListN.{getD}
+use mathlib.Core.Path.{sym}
 use Rattle.fields.specs.Fields.{ends-field}
 use Rattle.sheet.proofs.LawsText.{letter-none, not-last, letter-one, letter-more}
 use borrow.Author.Needs.{needs}

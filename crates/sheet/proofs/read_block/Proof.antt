@@ -1,8 +1,7 @@
 use mathlib.Core.Path.{_≡_, refl, sym, _∙_}
-use mathlib.Core.Bool.{false, not, _||_}
-use Prim.Native.Nat.{_<_, _≤_}
+use mathlib.Core.Bool.{false}
 use native.Mathlib.Omega.{arith}
-use lib.Dec.{eqb, leb}
+use lib.Dec.{leb}
 use lib.ListN.{getD}
 use borrow.Author.Tests.{leb-false}
 use lib.ListN.{take}
@@ -14,7 +13,6 @@ use Rattle.sheet.specs.Loaded.{sheet-of}
 use Rattle.sheet.proofs.LawsJudged.{lowest-zero}
 use Rattle.sheet.proofs.LawsProgress.{size-of, begun-by-room, counted-by}
 use Rattle.sheet.proofs.LawsLines.{told-most, block-refused, block-accepted}
-use borrow.Author.Needs.{needs}
 use Rattle.sheet.proofs.read_block.Statement.{statement}
 use Rattle.sheet.proofs.read_block.Tie as tie
 

@@ -10,7 +10,6 @@ use Rattle.sheet.specs.Loaded.{sheet-of}
 use Rattle.sheet.proofs.LawsJudged.{lowest-zero}
 use Rattle.sheet.proofs.LawsProgress.{size-of}
 use Rattle.sheet.proofs.LawsLines.{told-most, blank-of, function-refused, function-accepted}
-use borrow.Author.Needs.{needs}
 use Rattle.sheet.proofs.read_function.Statement.{statement}
 use Rattle.sheet.proofs.read_function.Tie as tie
 

@@ -1,10 +1,5 @@
 use Rattle.records.specs.Pairs.{move-paired}
-use mathlib.Core.Path.{_≡_, refl, sym, _∙_}
-use mathlib.Core.Bool.{false, not, _||_}
-use Prim.Native.Nat.{_<_, _≤_}
 use native.Mathlib.Omega.{arith}
-use lib.Dec.{eqb, leb}
-use lib.ListN.{getD}
 use Rattle.paper.specs.Sheet.{move}
 use Rattle.paper.specs.Refusals.{step-record, two-numbers-of}
 use Rattle.fields.specs.Fields.{fields-behind}

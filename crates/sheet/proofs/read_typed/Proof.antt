@@ -1,8 +1,7 @@
 use mathlib.Core.Path.{_≡_, refl, sym, _∙_}
 use mathlib.Core.Bool.{false, not, _||_}
-use Prim.Native.Nat.{_<_, _≤_}
 use native.Mathlib.Omega.{arith}
-use lib.Dec.{eqb, leb}
+use lib.Dec.{eqb}
 use lib.ListN.{getD}
 use borrow.Author.Tests.{not-false, eqb-true, eqb-false}
 use Rattle.paper.specs.Refusals.{typed-record, typed-of}
@@ -14,7 +13,6 @@ use Rattle.layout.specs.Layout.{opened-word, begun-word}
 use Rattle.sheet.proofs.LawsJudged.{lowest-zero}
 use Rattle.sheet.proofs.LawsProgress.{size-of, begun-of, counted-by, least-of}
 use Rattle.sheet.proofs.LawsLines.{told-most, typed-refused, typed-accepted}
-use borrow.Author.Needs.{needs}
 use Rattle.sheet.proofs.read_typed.Statement.{statement}
 use Rattle.sheet.proofs.read_typed.Tie as tie
 

@@ -1,6 +1,5 @@
 use mathlib.Core.Path.{_≡_, sym, _∙_}
 use mathlib.Core.Bool.{false}
-use Prim.Native.Nat.{_<_, _≤_}
 use native.Mathlib.Omega.{arith}
 use borrow.Author.Tests.{eqb-false, leb-false}
 use lib.Dec.{eqb, leb}
@@ -10,7 +9,6 @@ use Rattle.layout.specs.Layout.{opened-word, steps-word}
 use Rattle.sheet.proofs.LawsJudged.{lowest-zero}
 use Rattle.sheet.proofs.LawsProgress.{size-of, begun-by-opened}
 use Rattle.sheet.proofs.LawsLines.{step-refused, step-accepted}
-use borrow.Author.Needs.{needs}
 use Rattle.sheet.proofs.step_line.Statement.{statement}
 use Rattle.sheet.proofs.step_line.Tie as tie
 

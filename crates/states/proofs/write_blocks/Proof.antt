@@ -1,6 +1,6 @@
 -- `write_blocks` meets its contract: a line more each turn; 64 lines of 391 bytes fit.
 use mathlib.Core.Path.{_≡_, refl}
-use Prim.Native.Nat.{_+_, _*_, _-_, _≤_}
+use Prim.Native.Nat.{_*_, _-_, _≤_}
 use native.Mathlib.Omega.{arith}
 use lib.ListN.{length, getD}
 use Rattle.layout.specs.Layout.{blocks-word}

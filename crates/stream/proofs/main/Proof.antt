@@ -1,6 +1,5 @@
 -- `stream::main` is safe: the lent buffers keep their lengths from sheet to sheet.
-use mathlib.Core.Path.{_≡_, sym}
-use native.Mathlib.Omega.{arith}
+use mathlib.Core.Path.{_≡_}
 use lib.ListN.{length}
 use borrow.Author.Needs.{needs}
 use Rattle.stream.proofs.main.Statement.{statement}
