@@ -11,6 +11,7 @@ use lib.ListN.{length, getD, take}
 use lib.Seq.{getD-take}
 use Rattle.lists.specs.Or.{or-left, or-right}
 use Rattle.lists.specs.Split.{by-order}
+use Rattle.paper.specs.Limits.{max-regs, max-slots, max-vregs, max-blocks}
 use Rattle.paper.specs.Text.{Bytes}
 use Rattle.paper.specs.Sheet.{Step, Sheet}
 use Rattle.paper.specs.Refusals.{Record, function-record, typed-record, block-record, step-record, function-of, typed-of, block-of, two-numbers-of, beyond-limit, out-of-order, real-elsewhere, types-differ, any}
@@ -115,15 +116,15 @@ pub function-within : (S : Sheet) (regs slots vregs blocks entry : ℕ) {b : Boo
 unfolding beyond-limit
 function-within S regs slots vregs blocks entry k n z =
     let a = sym k ∙ lowest-none _ _ _ _ (sym n ∙ z) .0 in
-    let b = or-right (ltb 32 regs) _ a in
-    let c = or-right (ltb 32 slots) _ b in
-    let d = or-right (ltb 256 vregs) _ c in
-    let e = or-right (ltb 64 blocks) _ d in
+    let b = or-right (ltb max-regs regs) _ a in
+    let c = or-right (ltb max-slots slots) _ b in
+    let d = or-right (ltb max-vregs vregs) _ c in
+    let e = or-right (ltb max-blocks blocks) _ d in
     record {
-      regs-most = ltb-false 32 regs (or-left _ _ a);
-      slots-most = ltb-false 32 slots (or-left _ _ b);
-      vregs-most = ltb-false 256 vregs (or-left _ _ c);
-      blocks-most = ltb-false 64 blocks (or-left _ _ d);
+      regs-most = ltb-false max-regs regs (or-left _ _ a);
+      slots-most = ltb-false max-slots slots (or-left _ _ b);
+      vregs-most = ltb-false max-vregs vregs (or-left _ _ c);
+      blocks-most = ltb-false max-blocks blocks (or-left _ _ d);
       entry-below = leb-false blocks entry (or-right (eqb blocks 0) _ e);
     }
 

@@ -7,6 +7,7 @@ use native.Mathlib.Omega.{arith}
 use borrow.Author.Tests.{ne-eqb, lt-leb, le-leb, lt-ltb, le-ltb}
 use lib.ListN.{length, length-append}
 use Rattle.lists.specs.Split.{by-order}
+use Rattle.paper.specs.Limits.{max-blocks, max-steps}
 use Rattle.paper.specs.Text.{Bytes, digit-from, digits, name-text}
 use Rattle.paper.specs.Steps.{Fault, missing-allocation-for-reg}
 use Rattle.paper.specs.Report.{behind-tabs, rule-text, letter-E, kind-of, fault-fields, reg-text, slot-text, line-text}
@@ -116,7 +117,7 @@ name-short w =
     λ h. rw (le-ltb (w % 512) 256 h) (omega (arith, three-digits (w % 512 - 256) (omega arith)))
 
 -- "The longest line is 32 bytes"
-line-short : (block place inst kind : ℕ) (x y z : Bytes) → block < 64 → place < 1024 → kind < 10 → length x ≤ 3 → length y ≤ 4 → length z ≤ 4
+line-short : (block place inst kind : ℕ) (x y z : Bytes) → block < max-blocks → place < max-steps → kind < 10 → length x ≤ 3 → length y ≤ 4 → length z ≤ 4
     → length (letter-E ∷ behind-tabs (digits block ∷ digits place ∷ digits inst ∷ digits kind ∷ x ∷ y ∷ z ∷ [])) ≤ 32
 line-short block place inst kind x y z hb hp hk hx hy hz =
     omega (
@@ -157,7 +158,7 @@ unfolding fields-line
 line-of-fields block place inst F =
     ap₂ (λ (k : ℕ) (fs : List Bytes). letter-E ∷ behind-tabs (digits block ∷ digits place ∷ digits inst ∷ digits k ∷ fs)) (F .kind) (F .texts)
 
-module _ (block place inst : ℕ) (hb : block < 64) (hp : place < 1024) where
+module _ (block place inst : ℕ) (hb : block < max-blocks) (hp : place < max-steps) where
   error-short : (e : CheckerError) → ErrorWithin e
       → length (letter-E ∷ behind-tabs (digits block ∷ digits place ∷ digits inst ∷ digits (kind-in (fault-of e)) ∷ fields-in (fault-of e))) ≤ 32
   unfolding kind-in fields-in fault-of kind-of fault-fields slot-text reg-text
