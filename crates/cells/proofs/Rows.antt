@@ -1,6 +1,6 @@
 -- Rows and states: the steps of the loops, and what two rows make of a state.
 use mathlib.Core.Path.{_≡_, refl, sym, ap, ap₂, _∙_}
-use mathlib.Core.Bool.{Bool, true, false, cond, not, _||_}
+use mathlib.Core.Bool.{Bool, true, false, cond, not, _||_, or-true, or-false}
 use mathlib.Core.List.{List, [], _∷_, map}
 use Prim.Native.Nat.{ℕ, zero, suc, _+_, _-_, _/_, _%_, _^_, _≤_, _<_}
 use native.Mathlib.Nat.{zero-add, pow-suc, div-div-eq-div-mul, mul-comm, div-one, pow-zero, add-zero}
@@ -15,6 +15,7 @@ use Rattle.lists.specs.Region.{region, length-region, getD-region, region-below
 use Rattle.lists.specs.Maps.{any-step, map-set, map-take, take-over, region-over, copied-over}
 use Rattle.lists.specs.Kept.{Kept, kept-over, kept-then}
 use Rattle.lists.specs.Bits.{bits-from, set-bits, no-bits}
+use Rattle.lists.specs.Or.{or-left, or-right}
 use Rattle.paper.specs.Text.{Name, real}
 use Rattle.paper.specs.Sheet.{Sheet, listed}
 use Rattle.paper.specs.Cells.{Cell, absent, named}
@@ -210,14 +211,6 @@ met-over rule (suc n) row [] e h = absurd (omega arith)
 met-over rule (suc n) [] (x ∷ l) e h = absurd (omega arith)
 met-over rule (suc n) (y ∷ row) (x ∷ l) e h = ap₂ (λ a t. a ∷ t) (met-meaning rule x y) (met-over rule n row l (omega arith) (omega arith))
 
-or-true : (b : Bool) → b || true ≡ true
-or-true true = refl
-or-true false = refl
-
-or-false : (b : Bool) → b || false ≡ b
-or-false true = refl
-or-false false = refl
-
 -- a loop's step, and whether it changed its word
 module _ (f : ℕ → ℕ → ℕ) (at i : ℕ) (l words : List ℕ) (new : ℕ) (h : at + i < length l) (ew : words ≡ over at i f l) (en : new ≡ f i (getD words (at + i) 0)) where
   old-is : getD words (at + i) 0 ≡ getD l (at + i) 0
@@ -238,18 +231,13 @@ module _ (f : ℕ → ℕ → ℕ) (at i : ℕ) (l words : List ℕ) (new : ℕ)
   word-stays b eb e = rw (add-one, eq-eqb _ _ (sym new-is ∙ e ∙ old-is), or-false) eb
 
 -- `changes` is exact: where it is false the list stays, and where the cells stay it is false
-or-none : (a b : Bool) → a || b ≡ false → (a ≡ false) × (b ≡ false)
-or-none true b e = let z : _≡_ {A = ℕ} 0 1 = cc in absurd (omega arith)
-or-none false b e = (refl, e)
-
 unchanged : (at n : ℕ) (f : ℕ → ℕ → ℕ) (l : List ℕ) → at + n ≤ length l → changes at n f l ≡ false → over at n f l ≡ l
 unfolding changes
 unchanged at zero f l h e = over-none at f l
 unchanged at (suc n) f l h e =
-    let p : (changes at n f l ≡ false) × (not (eqb (f n (getD l (at + n) 0)) (getD l (at + n) 0)) ≡ false) = or-none _ _ e in
-    let same : f n (getD l (at + n) 0) ≡ getD l (at + n) 0 = eqb-true _ _ (not-false _ (p .1)) in
+    let same : f n (getD l (at + n) 0) ≡ getD l (at + n) 0 = eqb-true _ _ (not-false _ (or-right (changes at n f l) _ e)) in
     let more : set (over at n f l) (at + n) (f n (getD l (at + n) 0)) ≡ over at (suc n) f l = rw add-one at (over-more at n f l 0 (omega arith)) in
-    sym more ∙ rw (same, unchanged at n f l (omega arith) (p .0)) (set-getD l (at + n) 0)
+    sym more ∙ rw (same, unchanged at n f l (omega arith) (or-left (changes at n f l) _ e)) (set-getD l (at + n) 0)
 
 still : (at n : ℕ) (f : ℕ → ℕ → ℕ) (l : List ℕ) → ((k : ℕ) → k < n → f k (getD l (at + k) 0) ≡ getD l (at + k) 0) → changes at n f l ≡ false
 unfolding changes
@@ -300,9 +288,8 @@ met-with rule at n m l l₁ l₂ (x ∷ y ∷ []) a b hn hm room es ex ey e₁ e
       meaning = meaning;
       kept = kept-rows at n m f g l l₁ l₂ hn hm room (e₁ .0) (e₂ .0);
       still = λ e.
-          let p : (a ≡ false) × (b ≡ false) = or-none a b e in
-          let s₁ : l₁ ≡ l = e₁ .0 ∙ unchanged at n f l (omega arith) (sym (e₁ .1) ∙ p .0) in
-          e₂ .0 ∙ unchanged (at + 32) m g l₁ (omega arith) (sym (e₂ .1) ∙ p .1) ∙ s₁;
+          let s₁ : l₁ ≡ l = e₁ .0 ∙ unchanged at n f l (omega arith) (sym (e₁ .1) ∙ or-left a b e) in
+          e₂ .0 ∙ unchanged (at + 32) m g l₁ (omega arith) (sym (e₂ .1) ∙ or-right a b e) ∙ s₁;
       moved = λ t e.
           let all : map cell-of (region at n l₂) ∷ map cell-of (region (at + 32) m l₂) ∷ [] ≡ map cell-of (region at n l) ∷ map cell-of (region (at + 32) m l) ∷ [] =
           sym (stored-two n m at l₂) ∙ meaning ∙ e ∙ stored-two n m at l in

@@ -1,15 +1,13 @@
 -- From what the callees promise to what is said of a sheet, and from that to the paper's outcome.
 use mathlib.Core.Path.{_≡_, refl, sym, ap, _∙_, subst}
-use mathlib.Core.Bool.{Bool, true, false, or-true}
+use mathlib.Core.Bool.{Bool, true, false}
 use mathlib.Core.List.{List, [], _∷_}
 use Prim.Native.Nat.{ℕ, _≤_, _<_}
 use native.Mathlib.Omega.{arith}
-use lib.Dec.{ltb}
 use lib.ListN.{length, replicate}
-use borrow.Author.Tests.{lt-ltb, le-ltb}
 use Rattle.paper.specs.Text.{Bytes}
 use Rattle.paper.specs.Sheet.{Sheet}
-use Rattle.paper.specs.Limits.{report-size, words-size, queue-size, max-steps}
+use Rattle.paper.specs.Limits.{report-size, max-steps}
 use Rattle.paper.specs.Refusals.{Reading, loaded, refused, read, step-count}
 use Rattle.paper.specs.Runs.{checked-from}
 use Rattle.paper.specs.Report.{Line, report-text, missing-allocations, faults}
@@ -139,24 +137,6 @@ answered-from {report} {r} a e w = record {
   same-queue = a .same-queue;
   within = a .within;
 }
-
--- the buffers' lengths decide refusal 1
-module _ (report words queue : List ℕ) where
-  pub short-report : length report < report-size → too-short (lent report words queue) ≡ true
-  unfolding too-short
-  short-report h = rw (lt-ltb _ _ h)
-
-  pub short-words : length words < words-size → too-short (lent report words queue) ≡ true
-  unfolding too-short
-  short-words h = rw (lt-ltb _ _ h) (or-true (ltb (length report) report-size))
-
-  pub short-queue : length queue < queue-size → too-short (lent report words queue) ≡ true
-  unfolding too-short
-  short-queue h = rw (lt-ltb _ _ h, or-true) (or-true (ltb (length report) report-size))
-
-  pub long-enough : report-size ≤ length report → words-size ≤ length words → queue-size ≤ length queue → too-short (lent report words queue) ≡ false
-  unfolding too-short
-  long-enough a b c = rw (le-ltb _ _ a, le-ltb _ _ b, le-ltb _ _ c)
 
 -- refusal 1 changes nothing
 pub turned-short : (rule : Rule) (sheet : Bytes) (before : Lent) → too-short before ≡ true → Checked rule sheet before before (Refused 1 0)

@@ -1,13 +1,11 @@
 -- What a program writes: from the outcome of a call to the text at the start of the report.
 use mathlib.Core.Path.{_≡_, refl, ap, _∙_, subst}
-use mathlib.Core.Bool.{Bool, true, false, _||_}
+use mathlib.Core.Bool.{Bool, true, false}
 use mathlib.Core.Logic.{_⊎_, ⊎-elim}
 use mathlib.Core.List.{List, [], _∷_, _++_, append-assoc}
 use Prim.Native.Nat.{ℕ, _≤_}
 use native.Mathlib.Omega.{arith}
-use lib.Dec.{ltb}
 use lib.ListN.{length, drop, length-append}
-use borrow.Author.Tests.{ltb-false}
 use Rattle.lists.specs.Sets.{Wrote, length-wrote}
 use Rattle.fields.specs.Spelling.{length-digits}
 use Rattle.paper.specs.Text.{Bytes, tab, line-feed, digits}
@@ -19,6 +17,7 @@ use Rattle.paper.specs.declared.Rule.{Rule}
 use Rattle.paper.specs.declared.Answer.{Answer}
 use Rattle.paper.specs.declared.Answer.the-variants.{Accepted, Faulty, Refused}
 use Rattle.report.specs.Reported.{wrote-laid}
+use Rattle.checker.specs.Lengths.{long}
 use Rattle.checker.specs.Checked.{lent, refusal-text, Checked, text-of, lent-behind, Texted}
 use Rattle.checker.proofs.Refused.{read-bounded}
 
@@ -127,12 +126,7 @@ module _ {rule : Rule} {sheet : Bytes} {before after : Lent} {r : Answer} (c : C
             record { long = s; said = t ∙ ap (λ (n : ℕ). turned-away n l) zk ∙ ap (turned-away number) zl; left = p .1 }
 
     pub room : report-size ≤ length (after .report)
-    unfolding too-short
-    room = rw (turned .left) (long-report (ltb (length (before .report)) report-size) _ refl (turned .long))
-      where
-        long-report : (b rest : Bool) → ltb (length (before .report)) report-size ≡ b → (b || rest) ≡ false → report-size ≤ length (before .report)
-        long-report true rest s f = let z : _≡_ {A = ℕ} 0 1 = cc in absurd (omega arith)
-        long-report false rest s f = ltb-false (length (before .report)) report-size s
+    room = rw (turned .left) (long (before .report) (before .words) (before .queue) (turned .long) .0)
 
     pub texted-refusal : {report : List ℕ} {n : ℕ} → number ≤ 9 → line ≤ 65537 → Wrote (after .report) 0 (refusal-text number line) report n
         → Texted rule sheet before (lent report (after .words) (after .queue)) n

@@ -56,6 +56,19 @@ fn answer(
     }
 }
 
+// Refusal 1: a lent buffer is shorter than its published size.
+pub fn too_short(report: &[u8], words: &[u16], queue: &[u8]) -> bool
+    ensures { λ r. ⌜ r ≡ paper-answer.too-short (lent (now (report .entry)) (now (words .entry)) (now (queue .entry))) ⌝ }
+{
+    if report.len() < REPORT_SIZE {
+        return true;
+    }
+    if words.len() < WORDS_SIZE {
+        return true;
+    }
+    queue.len() < QUEUE_SIZE
+}
+
 // Checks a sheet under a rule. Refusal 1 changes nothing; any other answer leaves the scratch all zero; a refusal leaves the
 // report as it was, and otherwise the report's text stands at its start and later bytes keep their values.
 pub fn check(
@@ -67,13 +80,7 @@ pub fn check(
 ) -> Answer
     ensures { λ r. ⌜ Checked rule (now (sheet .entry)) (lent (now (report .entry)) (now (words .entry)) (now (queue .entry))) (lent (now (report .exit)) (now (words .exit)) (now (queue .exit))) r ⌝ }
 {
-    if report.len() < REPORT_SIZE {
-        return Answer::Refused(1, 0);
-    }
-    if words.len() < WORDS_SIZE {
-        return Answer::Refused(1, 0);
-    }
-    if queue.len() < QUEUE_SIZE {
+    if too_short(report, words, queue) {
         return Answer::Refused(1, 0);
     }
     let said = answer(rule, sheet, report, words, queue);

@@ -1,6 +1,6 @@
 -- What the loop of `read_number` holds, and what each way out of it tells; then the same for a name and an allocation.
 use mathlib.Core.Path.{_≡_, refl, sym, ap, _∙_}
-use mathlib.Core.Bool.{Bool, true, false, _&&_, true≢false}
+use mathlib.Core.Bool.{Bool, true, false, _&&_, true≢false, and-false}
 use mathlib.Core.List.{[], _∷_, _++_, append-nil, append-assoc}
 use Prim.Native.Nat.{ℕ, zero, suc, _+_, _-_, _*_, _≤_, _<_}
 use native.Mathlib.Numerals.{add-one}
@@ -8,7 +8,7 @@ use native.Mathlib.Omega.{arith}
 use borrow.Author.Tests.{eq-eqb, ne-eqb, lt-ltb, le-leb, lt-leb, eqb-true}
 use lib.Dec.{eqb}
 use lib.ListN.{length, getD, length-append}
-use Rattle.lists.specs.Split.{by-order, and-left, and-right, and-false}
+use Rattle.lists.specs.Split.{by-order, and-left, and-right}
 use Rattle.paper.specs.Text.{Bytes, is-digit, all-digits, leading-zero, is-number, value-from, number-of, digit-from, digits}
 use Rattle.fields.specs.Fields.{ends-field, field-at, field-end, number-told, number-at, Within}
 use Rattle.fields.specs.Spelling.{digit-range}

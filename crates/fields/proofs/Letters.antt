@@ -1,6 +1,6 @@
 -- A name and an allocation go by the field's first byte, and then by a number.
 use mathlib.Core.Path.{_≡_, refl, _∙_}
-use mathlib.Core.Bool.{Bool, true, false, not, _&&_, true≢false}
+use mathlib.Core.Bool.{Bool, true, false, not, _&&_, true≢false, and-false}
 use mathlib.Core.List.{[], _∷_}
 use mathlib.Core.Option.{Option, none, some, Option·map}
 use Prim.Native.Nat.{ℕ, _+_, _≤_, _<_}
@@ -8,7 +8,7 @@ use native.Mathlib.Omega.{arith}
 use borrow.Author.Tests.{ne-eqb, eqb-true, not-true}
 use lib.Dec.{eqb}
 use lib.ListN.{length, getD}
-use Rattle.lists.specs.Split.{by-test, and-left, and-right, and-false}
+use Rattle.lists.specs.Split.{by-test, and-left, and-right}
 use Rattle.paper.specs.Text.{Bytes, hyphen, letter-r, letter-v, is-digit, all-digits, is-number, number-of, name-of}
 use Rattle.paper.specs.Refusals.{one-byte, allocation-of}
 use Rattle.fields.specs.Fields.{ends-field, field-at, field-end, number-told, number-at, name-told, name-at, name-made, allocation-told, allocation-at, Within}

@@ -6,9 +6,8 @@ use Prim.Native.Nat.{ℕ, zero, suc, _+_, _-_, _*_, _/_, _%_, _^_, _≤_, _<_}
 use native.Mathlib.Nat.{pow-suc, zero-add}
 use native.Mathlib.Omega.{arith}
 use lib.Dec.{eqb}
-use lib.Arith.{bin-ind}
 use lib.Count.{trailingZeros}
-use lib.Bits.{bitAnd, and-step}
+use lib.Bits.{bitAnd, and-step, and-self}
 use Rattle.lists.specs.Regions.{All}
 
 -- of the k lowest bits of m, the places of those that are set, where bit 0 stands at i
@@ -79,9 +78,6 @@ lowest (suc k) i n p h =
     let half : (n - 1) / 2 ≡ n / 2 = omega arith in
     let none : i + 0 ≡ i = omega arith in
     rw (odd k n e, bits-odd k i n e, bits-even k i (n - 1) (omega arith), half, none)
-
-and-self : (n : ℕ) → bitAnd n n ≡ n
-and-self = bin-ind (λ (n : ℕ). bitAnd n n ≡ n) refl λ n ih. and-step n n ∙ rw ih (omega arith)
 
 -- `n & (n - 1)` takes the lowest set bit off
 pub cleared : (k n : ℕ) → 0 < n → n < 2 ^ k → bitAnd n (n - 1) ≡ n - 2 ^ trailingZeros k n

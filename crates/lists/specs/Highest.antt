@@ -5,13 +5,8 @@ use Prim.Native.Nat.{ℕ, zero, suc, _+_, _*_, _/_, _%_, _^_, _<_}
 use native.Mathlib.Nat.{pow-suc}
 use native.Mathlib.Omega.{arith}
 use lib.Dec.{eqb}
-use Rattle.lists.specs.Bits.{bits-from, set-bits}
+use Rattle.lists.specs.Bits.{bits-from, set-bits, bits-none}
 use Rattle.lists.specs.Split.{by-test}
-
-bits-none : (k i : ℕ) → bits-from k i 0 ≡ []
-unfolding bits-from
-bits-none zero i = refl
-bits-none (suc k) i = bits-none k (i + 1)
 
 bits-more : (k i m v : ℕ) → v < k → m < 2 ^ v → bits-from k i (m + 2 ^ v) ≡ bits-from k i m ++ ((i + v) ∷ [])
 unfolding bits-from
@@ -27,10 +22,6 @@ bits-more (suc k) i m (suc v) h p =
     let shift : i + 1 + v ≡ i + suc v = omega arith in
     rw (pow-suc, half, last, bits-more k (i + 1) (m / 2) v (omega arith) (omega arith), shift)
     (by-test (eqb (m % 2) 1) (λ e. rw e) λ e. rw e)
-
-pub set-bits-none : set-bits 0 ≡ []
-unfolding set-bits
-set-bits-none = bits-none 32 0
 
 -- a bit that stands above all set ones comes last
 pub set-bits-more : (m v : ℕ) → v < 32 → m < 2 ^ v → set-bits (m + 2 ^ v) ≡ set-bits m ++ (v ∷ [])

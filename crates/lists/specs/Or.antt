@@ -9,11 +9,3 @@ or-left false y e = refl
 pub or-right : (x y : Bool) → (x || y) ≡ false → y ≡ false
 or-right true y e = absurd (true≢false e)
 or-right false y e = e
-
-pub or-true : (x : Bool) → (x || true) ≡ true
-or-true true = refl
-or-true false = refl
-
-pub or-false : (x : Bool) → (x || false) ≡ x
-or-false true = refl
-or-false false = refl

@@ -1,4 +1,4 @@
--- A fact shown by cases, of a test or of two numbers' order; and what both of two tests tell.
+-- A fact shown by cases: of a test, of two numbers' order, of their being equal; and what both of two tests tell.
 use mathlib.Core.Path.{_≡_, refl, sym}
 use mathlib.Core.Bool.{Bool, true, false, _&&_, true≢false}
 use Prim.Native.Nat.{ℕ, _≤_, _<_}
@@ -17,6 +17,9 @@ module _ {P : Type 0} where
       go (yes p) = f p
       go (no q) = g (omega (arith, q))
 
+  pub by-equal : (a b : ℕ) → (a ≡ b → P) → ((a ≡ b → ⊥) → P) → P
+  by-equal a b f g = by-order a b (λ p. g λ e. omega arith) λ p. by-order b a (λ q. g λ e. omega arith) λ q. f (omega arith)
+
 pub and-left : (x y : Bool) → (x && y) ≡ true → x ≡ true
 and-left true y e = refl
 and-left false y e = e
@@ -24,7 +27,3 @@ and-left false y e = e
 pub and-right : (x y : Bool) → (x && y) ≡ true → y ≡ true
 and-right true y e = e
 and-right false y e = absurd (true≢false (sym e))
-
-pub and-false : (x : Bool) → (x && false) ≡ false
-and-false true = refl
-and-false false = refl

@@ -59,6 +59,10 @@ pub numbers-ended : {s : Bytes} {i : ℕ} → Behind s i → getD s i 0 ≡ line
 unfolding numbers-of
 numbers-ended b f = rw (none-left b f)
 
+pub map-same : {A : Type 0} (o : Option A) → o ≡ Option·map (λ a. a) o
+map-same none = refl
+map-same (some a) = refl
+
 -- ---- at most eight numbers
 
 -- the numbers up to i
@@ -71,11 +75,7 @@ pub record Reading (s : Bytes) (at count : ℕ) (values : List ℕ) (i : ℕ) : 
 
 pub reading-none : {s : Bytes} {at : ℕ} (values : List ℕ) → Behind s at → length values ≡ 8 → Reading s at 0 values at
 reading-none {s} {at} values b e =
-    record { whole = same (numbers-of (fields-behind s at)); few = omega arith; room = e; behind = b; line = refl }
-  where
-    same : (o : Option (List ℕ)) → o ≡ Option·map (λ ns. ns) o
-    same none = refl
-    same (some ns) = refl
+    record { whole = map-same (numbers-of (fields-behind s at)); few = omega arith; room = e; behind = b; line = refl }
 
 pub put-behind : {A : Type 0} (done : List A) (v : A) (o : Option (List A))
     → Option·map (λ ns. done ++ ns) (Option·map (λ ns. v ∷ ns) o) ≡ Option·map (λ ns. (done ++ (v ∷ [])) ++ ns) o

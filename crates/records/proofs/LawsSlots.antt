@@ -1,6 +1,6 @@
 -- The slots of a `P`, listed one by one: limit, order and mask.
 use mathlib.Core.Path.{_≡_, refl, sym, _∙_}
-use mathlib.Core.Bool.{Bool, true, false, not, _&&_, _||_, true≢false}
+use mathlib.Core.Bool.{Bool, true, false, not, _&&_, _||_, true≢false, and-true, and-false, and-assoc, or-true, or-false, or-assoc}
 use mathlib.Core.List.{List, [], _∷_, _++_, append-nil}
 use mathlib.Core.Option.{Option, none, some, Option·map}
 use Prim.Native.Nat.{ℕ, suc, _+_, _*_, _%_, _^_, _≤_, _<_}
@@ -11,39 +11,27 @@ use borrow.Author.Tests.{le-leb, lt-leb, not-true}
 use lib.Dec.{leb}
 use lib.ListN.{getD}
 use lib.Pow.{pow-mono, shl-exact}
-use Rattle.lists.specs.Or.{or-true, or-false}
-use Rattle.lists.specs.Split.{by-test, and-false}
+use Rattle.lists.specs.Split.{by-test}
 use Rattle.paper.specs.Text.{Bytes, line-feed, number-of}
 use Rattle.paper.specs.Refusals.{next, numbers-of, any, ascending-from, ascending}
 use Rattle.fields.specs.Fields.{line-end, fields-behind}
-use Rattle.lists.specs.Highest.{set-bits-none, set-bits-more}
+use Rattle.lists.specs.Bits.{no-bits}
+use Rattle.lists.specs.Highest.{set-bits-more}
 use Rattle.records.specs.declared.Listed.{Listed}
 use Rattle.records.specs.Records.{Behind, Next}
 use Rattle.records.specs.Parts.{least-behind, Listing, SlotsRead}
 use Rattle.records.proofs.LawsPlaces.{ends-here}
-use Rattle.records.proofs.LawsNumbers.{put-behind, numbers-taken, numbers-refused, numbers-ended}
+use Rattle.records.proofs.LawsNumbers.{map-same, put-behind, numbers-taken, numbers-refused, numbers-ended}
 
 any-last : {A : Type 0} (test : A → Bool) (l : List A) (x : A) → any test (l ++ (x ∷ [])) ≡ (any test l || test x)
 unfolding any
 any-last test [] x = or-false (test x)
-any-last test (y ∷ l) x = rw (any-last test l x) (assoc (test y) (any test l) (test x))
-  where
-    assoc : (a b c : Bool) → (a || (b || c)) ≡ ((a || b) || c)
-    assoc true b c = refl
-    assoc false b c = refl
-
-and-true : (a : Bool) → (a && true) ≡ a
-and-true true = refl
-and-true false = refl
+any-last test (y ∷ l) x = rw (any-last test l x) (sym (or-assoc (test y) (any test l) (test x)))
 
 ascending-last : (least : ℕ) (l : List ℕ) (x : ℕ) → ascending-from least (l ++ (x ∷ [])) ≡ (ascending-from least l && leb (least-behind least l) x)
 unfolding ascending-from least-behind
 ascending-last least [] x = and-true (leb least x)
-ascending-last least (y ∷ l) x = rw (ascending-last (suc y) l x) (assoc (leb least y) (ascending-from (suc y) l) (leb (least-behind (suc y) l) x))
-  where
-    assoc : (a b c : Bool) → (a && (b && c)) ≡ ((a && b) && c)
-    assoc true b c = refl
-    assoc false b c = refl
+ascending-last least (y ∷ l) x = rw (ascending-last (suc y) l x) (sym (and-assoc (leb least y) (ascending-from (suc y) l) (leb (least-behind (suc y) l) x)))
 
 least-last : (least : ℕ) (l : List ℕ) (x : ℕ) → least-behind least (l ++ (x ∷ [])) ≡ suc x
 unfolding least-behind
@@ -68,7 +56,7 @@ listing-none slots = record {
   most = omega arith;
   order = λ e. refl;
   next-least = λ e f. refl;
-  bits = λ e f. set-bits-none;
+  bits = λ e f. no-bits;
 }
 
 -- one number more does not bring order back; and it keeps order from the least on
@@ -142,11 +130,7 @@ pub record Slotting (s : Bytes) (at slots i : ℕ) (l : Listed) : Type 0 where
 
 pub slotting-none : {s : Bytes} {at : ℕ} (slots : ℕ) → Behind s at → Slotting s at slots at (record { beyond = false; disorder = false; mask = 0; least = 0 })
 slotting-none {s} {at} slots b =
-    record { done = []; whole = same (numbers-of (fields-behind s at)); listing = listing-none slots; behind = b; line = refl }
-  where
-    same : (o : Option (List ℕ)) → o ≡ Option·map (λ ns. ns) o
-    same none = refl
-    same (some ns) = refl
+    record { done = []; whole = map-same (numbers-of (fields-behind s at)); listing = listing-none slots; behind = b; line = refl }
 
 module _ {s : Bytes} {at slots i : ℕ} {l : Listed} (r : Slotting s at slots i l) where
   pub slotting-bad : (getD s i 0 ≡ line-feed → ⊥) → next number-of (fields-behind s i) ≡ none → numbers-of (fields-behind s at) ≡ none

@@ -18,14 +18,11 @@ ghost use Rattle.states.specs.EntryStates as text;
 ghost use Rattle.states.specs.Stated.{Stated, part-text, Written, HoldsStates, row-text, head-text, longest-cell, longest-head, longest-line, longest-text};
 use layout::BLOCKS_WORD;
 use layout::MARK_BASE;
-use layout::QUEUE_SIZE;
 use layout::REGS_WORD;
-use layout::REPORT_SIZE;
 use layout::ROW_WORDS;
 use layout::SLOTS_WORD;
 use layout::STATE_BASE;
 use layout::STATE_WORDS;
-use layout::WORDS_SIZE;
 use paper::Rule;
 use report::Missing;
 use sheet::Loading;
@@ -163,13 +160,7 @@ pub fn entry_states(
 ) -> usize
     ensures { λ r. ⌜ Stated (text.entry-states rule (now (sheet .entry))) (lent (now (out .entry)) (now (words .entry)) (now (queue .entry))) (lent (now (out .exit)) (now (words .exit)) (now (queue .exit))) r × (r ≤ longest-text) ⌝ }
 {
-    if out.len() < REPORT_SIZE {
-        return 0;
-    }
-    if words.len() < WORDS_SIZE {
-        return 0;
-    }
-    if queue.len() < QUEUE_SIZE {
+    if checker::too_short(out, words, queue) {
         return 0;
     }
     let length = write_states(rule, sheet, out, words, queue);

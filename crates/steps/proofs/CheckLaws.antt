@@ -1,6 +1,6 @@
 -- The checks: one turn of a search, and what the errors on packed words mean.
 use mathlib.Core.Path.{_≡_, refl, sym, ap, ap₂, _∙_}
-use mathlib.Core.Bool.{Bool, true, false, cond}
+use mathlib.Core.Bool.{Bool, true, false, cond, true≢false}
 use mathlib.Core.List.{List, [], _∷_, map}
 use mathlib.Core.Option.{some}
 use Prim.Native.Nat.{ℕ, _+_, _-_, _/_, _%_, _^_, _≤_, _<_}
@@ -12,6 +12,7 @@ use lib.ListN.{length, getD}
 use lib.Count.{trailingZeros}
 use Rattle.lists.specs.Region.{region}
 use Rattle.lists.specs.Regions.{region-cons, region-none, All, all-region}
+use Rattle.lists.specs.Split.{by-equal}
 use Rattle.lists.specs.Bits.{set-bits, no-bits, lowest, trailing-below, set-bits-below}
 use Rattle.paper.specs.Cells.{named}
 use Rattle.paper.specs.Steps as paper
@@ -25,23 +26,20 @@ use Rattle.steps.specs.Checks.{use-error, change-error, slot-error, or-e
 use Rattle.steps.specs.declared.CheckerError.{CheckerError}
 use Rattle.steps.specs.declared.CheckerError.the-variants.{Nothing, UnknownValueInReg, IncorrectValueInReg, UnknownValueInSlot, IncorrectValueInSlot, StackMapSpecifiesNonRefSlot, StackMapSpecifiesUndefinedSlot}
 
-false-is-true : {A : Type 0} → false ≡ true → A
-false-is-true e = let z : _≡_ {A = ℕ} 0 1 = cc in absurd (omega arith)
-
 -- an error ends the search, and nothing lets it go on
 goes-on : (e later : CheckerError) → is-error e ≡ false → or-else e later ≡ later
 unfolding is-error or-else
 goes-on Nothing later h = refl
-goes-on (UnknownValueInReg r) later h = false-is-true (sym h)
-goes-on (IncorrectValueInReg r x a) later h = false-is-true (sym h)
-goes-on (UnknownValueInSlot k x) later h = false-is-true (sym h)
-goes-on (IncorrectValueInSlot k x a) later h = false-is-true (sym h)
-goes-on (StackMapSpecifiesNonRefSlot k) later h = false-is-true (sym h)
-goes-on (StackMapSpecifiesUndefinedSlot k) later h = false-is-true (sym h)
+goes-on (UnknownValueInReg r) later h = absurd (true≢false h)
+goes-on (IncorrectValueInReg r x a) later h = absurd (true≢false h)
+goes-on (UnknownValueInSlot k x) later h = absurd (true≢false h)
+goes-on (IncorrectValueInSlot k x a) later h = absurd (true≢false h)
+goes-on (StackMapSpecifiesNonRefSlot k) later h = absurd (true≢false h)
+goes-on (StackMapSpecifiesUndefinedSlot k) later h = absurd (true≢false h)
 
 ends-here : (e later : CheckerError) → is-error e ≡ true → or-else e later ≡ e
 unfolding is-error or-else
-ends-here Nothing later h = false-is-true h
+ends-here Nothing later h = absurd (true≢false (sym h))
 ends-here (UnknownValueInReg r) later h = refl
 ends-here (IncorrectValueInReg r x a) later h = refl
 ends-here (UnknownValueInSlot k x) later h = refl
@@ -95,20 +93,12 @@ fault-or-else (StackMapSpecifiesUndefinedSlot k) later = refl
 low-name : (w : ℕ) → name-of-word (w % 512) ≡ name-of-word w
 low-name w = same-name (w % 512) w (omega arith)
 
--- a test of numbers, by the Bool that it gives
-by-test : {Q : Type 0} (a b : ℕ) → (a ≡ b → Q) → ((a ≡ b → ⊥) → Q) → Q
-by-test {Q} a b f g = go (eqb a b) refl
-  where
-    go : (x : Bool) → eqb a b ≡ x → Q
-    go true e = f (eqb-true a b e)
-    go false e = g (eqb-false a b e)
-
 use-means : (u w : ℕ) → fault-of (use-error u w) ≡ check-use (operand-of u) (cell-of w)
 unfolding use-error fault-of check-use operand-of
 use-means u w =
-    by-test (w / 1024 % 4) 3
+    by-equal (w / 1024 % 4) 3
     (λ k.
-    by-test (w % 512) (u % 512)
+    by-equal (w % 512) (u % 512)
     (λ e. rw (eq-eqb _ _ k, eq-eqb _ _ e, is-named w k) (sym (pick-name w u _ _ e)))
     λ d. rw (eq-eqb _ _ k, ne-eqb _ _ d, is-named w k, low-name u, low-name w) (sym (pick-other w u _ _ d)))
     λ d. rw (ne-eqb _ _ d) (unnamed (λ c. some (paper.unknown-value-in-reg (register-of (u / 1024)))) (check-use (operand-of u)) refl refl refl w d)
@@ -116,9 +106,9 @@ use-means u w =
 change-means : (k from w : ℕ) → fault-of (change-error k from w) ≡ check-change k (name-of-word from) (cell-of w)
 unfolding change-error fault-of check-change
 change-means k from w =
-    by-test (w / 1024 % 4) 3
+    by-equal (w / 1024 % 4) 3
     (λ e3.
-    by-test (w % 512) (from % 512)
+    by-equal (w % 512) (from % 512)
     (λ e. rw (eq-eqb _ _ e3, eq-eqb _ _ e, is-named w e3) (sym (pick-name w from _ _ e)))
     λ d. rw (eq-eqb _ _ e3, ne-eqb _ _ d, is-named w e3, low-name from, low-name w) (sym (pick-other w from _ _ d)))
     λ d. rw (ne-eqb _ _ d, low-name from) (unnamed (λ c. some (paper.unknown-value-in-slot k (name-of-word from))) (check-change k (name-of-word from)) refl refl refl w d)
@@ -126,7 +116,7 @@ change-means k from w =
 slot-means : (k w : ℕ) → fault-of (slot-error k w) ≡ check-slot k (cell-of w)
 unfolding slot-error fault-of check-slot
 slot-means k w =
-    by-test (w / 1024 % 4) 3
+    by-equal (w / 1024 % 4) 3
     (λ e3. rw (eq-eqb _ _ e3, is-named w e3) (go (marked w)))
     λ d. rw (ne-eqb _ _ d) (unnamed (λ c. some (paper.stack-map-specifies-undefined-slot k)) (check-slot k) refl refl refl w d)
   where

@@ -16,6 +16,7 @@ use Rattle.paper.specs.Runs.{meet-states, flow, analysis, entered, checked-from
 use Rattle.paper.specs.Report.{Line, line-of, faults-from, block-faults, by-block, find-errors, kind-of}
 use Rattle.paper.specs.Walks.{In, here, there, along, HouseWalk, SameNames}
 use Rattle.paper.specs.declared.Rule.the-variants.{House}
+use Rattle.lists.specs.Or.{or-left}
 use Rattle.walks.specs.Choices.{some-not-none, in-nil, in-append}
 use Rattle.walks.specs.Meet.{house-names}
 use Rattle.walks.specs.Effects.{get-meet}
@@ -52,14 +53,10 @@ unmarked-left s t l n e =
     let h = meet-left s t l n (record { mark = false; is = e }) in
     let g = meet-right s t l n (record { mark = false; is = e }) in
     let m : named n (h .mark || g .mark) ≡ named n false = cc (get-meet s t l, h .is, g .is, house-names n (h .mark) (g .mark)) in
-    h .is ∙ ap (named n) (go (h .mark) (g .mark) (named-mark n m))
+    h .is ∙ ap (named n) (or-left (h .mark) (g .mark) (named-mark n m))
   where
     named-mark : (n : Name) {a b : Bool} → named n a ≡ named n b → a ≡ b
     named-mark n p = cc
-
-    go : (a b : Bool) → (a || b) ≡ false → a ≡ false
-    go true b p = p
-    go false b p = refl
 
 -- how a fault of the step x is shown by a family of states
 pub data Shown {I : Type 0} (x : Step) (σ : I → State) (f : Fault) : Type 0 where

@@ -3,7 +3,7 @@
 -- so that no later `T` changes a name's type. The reader adds a record at a time, and each keeps it so.
 use mathlib.Core.Path.{_≡_, refl, sym, _∙_, ap, subst}
 use mathlib.Core.Logic.{_⊎_, inl, inr, ⊎-map}
-use mathlib.Core.Bool.{Bool, true, false, cond, not, _||_, Bool·beq}
+use mathlib.Core.Bool.{Bool, true, false, cond, not, _||_, Bool·beq, true≢false}
 use mathlib.Core.List.{List, [], _∷_, _++_}
 use mathlib.Core.Option.{Option, none, some}
 use Prim.Native.Nat.{ℕ, suc, zero, _+_, _≤_, _<_}
@@ -19,6 +19,7 @@ use Rattle.paper.specs.Report.{Line, faults, report-text}
 use Rattle.paper.specs.Answer.{accepted, said-of, said-after, answer}
 use Rattle.paper.specs.Walks.{In, here, there}
 use Rattle.paper.specs.declared.Rule.{Rule}
+use Rattle.lists.specs.Or.{or-left, or-right}
 use Rattle.walks.specs.Choices.{in-nil, in-append, some-not-none}
 use Rattle.walks.specs.Bounds.{Closed}
 use Rattle.walks.specs.Honest.{Typed}
@@ -34,13 +35,6 @@ SoundSoFar : Option Sheet → Type 0
 SoundSoFar none = Unit {0}
 SoundSoFar (some S) = Sound S
 
-true-false : {Q : Type 0} → true ≡ false → Q
-true-false e = let z : _≡_ {A = ℕ} 0 1 = cc in absurd (omega arith)
-
-or-false : (a b : Bool) → (a || b) ≡ false → (a ≡ false) × (b ≡ false)
-or-false true b e = true-false e
-or-false false b e = (refl, e)
-
 not-holding : (c : Condition) (cs : List Condition) → first-holding (c ∷ cs) ≡ none → (c .holds ≡ false) × (first-holding cs ≡ none)
 unfolding first-holding
 not-holding c cs e = go (c .holds) refl e
@@ -52,18 +46,18 @@ not-holding c cs e = go (c .holds) refl e
 none-of : {A : Type 0} (test : A → Bool) (l : List A) → any test l ≡ false → (x : A) → In x l → test x ≡ false
 unfolding any
 none-of test [] e x i = absurd (in-nil i)
-none-of test (y ∷ l) e x (here p) = ap test p ∙ or-false (test y) (any test l) e .0
-none-of test (y ∷ l) e x (there i) = none-of test l (or-false (test y) (any test l) e .1) x i
+none-of test (y ∷ l) e x (here p) = ap test p ∙ or-left (test y) (any test l) e
+none-of test (y ∷ l) e x (there i) = none-of test l (or-right (test y) (any test l) e) x i
 
 is-empty : {A : Type 0} (l : List A) → empty l ≡ true → l ≡ []
 unfolding empty
 is-empty [] e = refl
-is-empty (x ∷ l) e = true-false (sym e)
+is-empty (x ∷ l) e = absurd (true≢false (sym e))
 
 same-bool : (a b : Bool) → not (Bool·beq a b) ≡ false → a ≡ b
 same-bool true true e = refl
-same-bool true false e = true-false e
-same-bool false true e = true-false e
+same-bool true false e = absurd (true≢false e)
+same-bool false true e = absurd (true≢false e)
 same-bool false false e = refl
 
 -- a name's type is told by the `T` lines alone
@@ -122,14 +116,14 @@ step-typed S x e inst k from to p = same-bool (reference-typed S from) (referenc
 add-sound : (so-far : Option Sheet) (r : Record) → SoundSoFar so-far → Unrefused so-far r → Sound (add-record (so-far-of so-far) r)
 unfolding SoundSoFar add-record out-of-place beyond-limit step-too-many step-count
 add-sound none (function-record regs slots vregs blocks entry) g u =
-    let vregs-in = or-false (ltb max-slots slots) _ (or-false (ltb max-regs regs) _ (u .in-limits) .1) .1 in
-    let blocks-in = or-false (ltb max-blocks blocks) _ (or-false (ltb max-vregs vregs) _ vregs-in .1) .1 in
-    let entry-below = or-false (eqb blocks 0) (leb blocks entry) blocks-in .1 in
+    let vregs-in = or-right (ltb max-slots slots) _ (or-right (ltb max-regs regs) _ (u .in-limits)) in
+    let blocks-in = or-right (ltb max-blocks blocks) _ (or-right (ltb max-vregs vregs) _ vregs-in) in
+    let entry-below = or-right (eqb blocks 0) (leb blocks entry) blocks-in in
     record { entry-in = leb-false blocks entry entry-below; succs-in = λ B i. absurd (in-nil i); changes = λ B i. absurd (in-nil i); few = omega arith }
-add-sound none (typed-record n) g u = true-false (u .in-place)
-add-sound none (block-record succs) g u = true-false (u .in-place)
-add-sound none (step-record x) g u = true-false (u .in-place)
-add-sound (some S) (function-record regs slots vregs blocks entry) g u = true-false (u .in-place)
+add-sound none (typed-record n) g u = absurd (true≢false (u .in-place))
+add-sound none (block-record succs) g u = absurd (true≢false (u .in-place))
+add-sound none (step-record x) g u = absurd (true≢false (u .in-place))
+add-sound (some S) (function-record regs slots vregs blocks entry) g u = absurd (true≢false (u .in-place))
 add-sound (some S) (typed-record n) g u =
     let e : S .body ≡ [] = is-empty (S .body) (not-false (empty (S .body)) (u .in-place)) in
     record { entry-in = g .entry-in; succs-in = g .succs-in; changes = λ B i. absurd (in-nil (subst (In B) e i)); few = g .few }
