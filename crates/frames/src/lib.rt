@@ -1,8 +1,12 @@
 // Frames on standard input and output: a line `#` and a decimal length of at most five digits, then that many bytes.
+ghost use mathlib.Core.Path.{_≡_};
+ghost use mathlib.Core.Bool.{true};
 ghost use Prim.Native.Nat.{_≤_};
 ghost use lib.ListN.{length};
 ghost use Rattle.lists.specs.Sets.{Wrote};
-ghost use Rattle.frames.specs.Frame.{longest-frame, longest-head, frame-head, LengthWithin, FrameLeft};
+ghost use Rattle.frames.specs.Frame.{longest-frame, longest-head, frame-head, length-of, LengthWithin, LineLeft, FrameLeft};
+use fields::End;
+use fields::Number;
 
 const LONGEST_FRAME: usize = 99999;
 
@@ -33,48 +37,54 @@ fn read_byte() -> Byte {
     }
 }
 
-// The length that a frame's first line says.
-fn read_length() -> Length
-    ensures { λ r. ⌜ LengthWithin r ⌝ }
+// Reads a line to the start of `line`, at most as much as it has room for: its length.
+fn read_line(line: &mut [u8]) -> usize
+    ensures { λ r. ⌜ LineLeft (now (line .entry)) (now (line .exit)) r ⌝ }
 {
-    let mut length: usize = 0;
-    let mut digits: usize = 0;
-    while digits < 7 {
+    let mut n: usize = 0;
+    while n < line.len() {
         let Byte::Value(b) = read_byte() else {
-            return Length::Bad;
+            return n;
         };
+        line[n] = b;
+        n += 1;
         if b == b'\n' {
-            if digits == 0 {
-                return Length::Bad;
-            }
-            return Length::Value(length);
+            return n;
         }
-        if b < b'0' {
-            return Length::Bad;
-        }
-        if b'9' < b {
-            return Length::Bad;
-        }
-        if 10000 <= length {
-            return Length::Bad;
-        }
-        length = length * 10 + (b - b'0') as usize;
-        digits += 1;
     }
-    Length::Bad
+    n
+}
+
+// The length that a frame's first line says.
+fn length_of(line: &[u8]) -> Length
+    ensures { λ r. ⌜ r ≡ length-of (now (line .entry)) ⌝ }
+    ensures within { λ r. ⌜ LengthWithin r ⌝ }
+{
+    if line.len() == 0 {
+        return Length::Bad;
+    }
+    if line[0] != b'#' {
+        return Length::Bad;
+    }
+    let Number::Value(n, end) = fields::read_number(line, 1) else {
+        return Length::Bad;
+    };
+    let End::LineFeed = fields::ends(line, end) else {
+        return Length::Bad;
+    };
+    Length::Value(n as usize)
 }
 
 // Reads one frame to the start of the room.
 pub fn read(room: &mut [u8]) -> Frame
     ensures { λ r. ⌜ FrameLeft (now (room .entry)) (now (room .exit)) r ⌝ }
 {
-    let Byte::Value(b) = read_byte() else {
+    let mut head = [0u8; 7];
+    let n = read_line(&mut head);
+    if n == 0 {
         return Frame::End;
-    };
-    if b != b'#' {
-        return Frame::Malformed;
     }
-    let Length::Value(length) = read_length() else {
+    let Length::Value(length) = length_of(&head[..n]) else {
         return Frame::Malformed;
     };
     if room.len() < length {
@@ -97,7 +107,9 @@ fn write_head(head: &mut [u8], n: usize) -> usize
 }
 
 // Writes a text of at most 99,999 bytes as a frame; whether all of it could be written.
-pub fn write(text: &[u8]) -> bool {
+pub fn write(text: &[u8]) -> bool
+    ensures { λ r. ⌜ (r ≡ true → length (now (text .entry)) ≤ longest-frame) ⌝ }
+{
     if LONGEST_FRAME < text.len() {
         return false;
     }

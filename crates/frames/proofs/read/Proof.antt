@@ -8,35 +8,35 @@ use borrow.Author.Needs.{needs}
 use Rattle.frames.proofs.read.Statement.{statement}
 use Rattle.frames.proofs.read.Tie as tie
 
-read-byte-requires : tie.Need-read-byte-requires
-read-byte-requires c κs = search needs
+slice-aggregate-read-line : tie.Need-slice-aggregate-read-line
+slice-aggregate-read-line c = search needs
 
-enum-known-b : tie.Need-enum-known-b
-enum-known-b c = search needs
-
-enum-told : tie.Need-enum-told
-enum-told c = search needs
+read-line-requires : tie.Need-read-line-requires
+read-line-requires c κs = search needs
 
 returns : tie.Need-returns
 returns c = search needs
 
-returns-2 : tie.Need-returns-2
-returns-2 c = search needs
+array-share-prefix-head : tie.Need-array-share-prefix-head
+array-share-prefix-head c = search needs
 
-read-length-requires : tie.Need-read-length-requires
-read-length-requires c κs = search needs
+slice-aggregate-length-of : tie.Need-slice-aggregate-length-of
+slice-aggregate-length-of c = simp length-take (omega (arith, c .before .before .before .read-line .ensures .inside))
+
+length-of-requires : tie.Need-length-of-requires
+length-of-requires c κs = search needs
 
 enum-known-length : tie.Need-enum-known-length
 enum-known-length c = search needs
 
-enum-told-2 : tie.Need-enum-told-2
-enum-told-2 c = search needs
+enum-told : tie.Need-enum-told
+enum-told c = search needs
+
+returns-2 : tie.Need-returns-2
+returns-2 c = search needs
 
 returns-3 : tie.Need-returns-3
 returns-3 c = search needs
-
-returns-4 : tie.Need-returns-4
-returns-4 c = search needs
 
 slice-relend-prefix-read-full : tie.Need-slice-relend-prefix-read-full
 slice-relend-prefix-read-full c = search needs
@@ -52,18 +52,18 @@ same-length c = search needs
 
 -- the length that was read is one of five digits at most
 small : (k : tie.After-slice-known2) → k .before .before .before .before .before .before .length .given .0 .0 ≤ longest-frame
-small k = rw (k .before .before .before .before .before .before .length .given .1) at (k .before .before .before .before .before .before .before .before .read-length .ensures)
+small k = rw (k .before .before .before .before .before .before .length .given .1) at (k .before .before .before .before .before .before .before .before .length-of .ensures .1)
 
-returns-5 : tie.Need-returns-5
-returns-5 c = let k = c .before in
+returns-4 : tie.Need-returns-4
+returns-4 c = let k = c .before in
     let room = k .before .before .before .before .before .before .before .before .before .before .before .before .before .before .before .args .room .now in
     kept-further _ longest-frame _ _ (small k) (kept-behind (k .before .before .before .before .before .before .length .given .0 .0) (k .before .before .read-full .last .1 .0) room (k .before .before .before .before .if2 .left) (same-length c))
 
 same-length-2 : tie.Need-same-length-2
 same-length-2 c = search needs
 
-returns-6 : tie.Need-returns-6
-returns-6 c = let k = c .before in
+returns-5 : tie.Need-returns-5
+returns-5 c = let k = c .before in
     let room = k .before .before .before .before .before .before .before .before .before .before .before .before .before .before .before .args .room .now in
     (omega arith, small k, kept-behind (k .before .before .before .before .before .before .length .given .0 .0) (k .before .before .read-full .last .1 .0) room (k .before .before .before .before .if2 .left) (same-length-2 c))
 
@@ -71,20 +71,20 @@ pub read-spec : {M : Type 1} → statement M
 read-spec =
     tie.close
     (tie.spec
-    read-byte-requires
-    enum-known-b
-    enum-told
+    slice-aggregate-read-line
+    read-line-requires
     returns
-    returns-2
-    read-length-requires
+    array-share-prefix-head
+    slice-aggregate-length-of
+    length-of-requires
     enum-known-length
-    enum-told-2
+    enum-told
+    returns-2
     returns-3
-    returns-4
     slice-relend-prefix-read-full
     slice-aggregate-read-full
     read-full-requires
     same-length
-    returns-5
+    returns-4
     same-length-2
-    returns-6)
+    returns-5)

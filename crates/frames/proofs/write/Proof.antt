@@ -1,4 +1,6 @@
--- `frames::write` is safe: the head is the part of its buffer that was written.
+-- `frames::write` meets its contract: what is written was not too long; the head is the part of its buffer that was written.
+use mathlib.Core.Path.{sym}
+use mathlib.Core.Bool.{true≢false}
 use native.Mathlib.Omega.{arith}
 use lib.ListN.{length-take}
 use borrow.Author.Needs.{needs}
@@ -6,7 +8,7 @@ use Rattle.frames.proofs.write.Statement.{statement}
 use Rattle.frames.proofs.write.Tie as tie
 
 returns : tie.Need-returns
-returns c = search needs
+returns c = λ e. absurd (true≢false (sym e))
 
 slice-aggregate-write-head : tie.Need-slice-aggregate-write-head
 slice-aggregate-write-head c = search needs
@@ -24,13 +26,13 @@ write-all-requires : tie.Need-write-all-requires
 write-all-requires c κs = search needs
 
 returns-2 : tie.Need-returns-2
-returns-2 c = search needs
+returns-2 c = λ e. omega arith
 
 write-all-requires-2 : tie.Need-write-all-requires-2
 write-all-requires-2 c κs = search needs
 
 returns-3 : tie.Need-returns-3
-returns-3 c = search needs
+returns-3 c = λ e. omega arith
 
 pub write-spec : {M : Type 1} → statement M
 write-spec =
