@@ -27,8 +27,7 @@ module _ (report words queue : List ℕ) where
   pub long : too-short (lent report words queue) ≡ false → (report-size ≤ length report) × (words-size ≤ length words) × (queue-size ≤ length queue)
   unfolding too-short
   long e =
-      let later = or-right (ltb (length report) report-size) _ e in
-      (
+      let later = or-right (ltb (length report) report-size) _ e in (
         ltb-false _ _ (or-left (ltb (length report) report-size) _ e),
         ltb-false _ _ (or-left (ltb (length words) words-size) _ later),
         ltb-false _ _ (or-right (ltb (length words) words-size) _ later),

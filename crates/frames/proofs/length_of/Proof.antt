@@ -43,8 +43,7 @@ returns-5 : tie.Need-returns-5
 returns-5 c =
     let v = c .before .before .before .before in
     let r = v .before .before in
-    let within = rw (v .n .given .1) at (r .read-number .ensures .1) in
-    (
+    let within = rw (v .n .given .1) at (r .read-number .ensures .1) in (
       ended _ (r .before .if2 .left) (sym (r .read-number .ensures .0) ∙ v .n .given .1) (sym (c .enum-told2 .given .1) ∙ c .before .before .ends .ensures .0),
       omega (arith, within .small),
     )
