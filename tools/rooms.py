@@ -68,11 +68,15 @@ def rooms(jobs, kind):
         shutil.rmtree(work, ignore_errors=True)
 
 
+SHAPE = re.compile(r"can be named from here|error: `(Inv|μ)-")
+
+
 def facts_and_shapes(said, folder):
-    """The errors in a folder that follow from no other: facts that no longer hold, and names that a proof no longer finds."""
+    """The errors in a folder that follow from no other: facts that no longer hold; and names that a proof no longer finds, or a loop's
+    invariant and measure that are not over the variables that the loop has."""
     errors = re.findall(rf'{folder}/(\S+: error.*|\S+: it is not proved that .*)', said)
     own = [e for e in errors if 'was not admitted' not in e]
-    return [e for e in own if 'can be named from here' not in e], [e for e in own if 'can be named from here' in e]
+    return [e for e in own if not SHAPE.search(e)], [e for e in own if SHAPE.search(e)]
 
 
 def functions(text):
