@@ -22,7 +22,7 @@ use paper::Rule;
 pub type State = [[u16; ROW_WORDS]; 2];
 
 // Which side wins the meet, by rule, left kind and right kind: 0 the left, 1 the right, 2 both are names.
-pub const MEET: [[[u8; 4]; 4]; 2] = [
+const MEET: [[[u8; 4]; 4]; 2] = [
     [[0, 1, 1, 1], [0, 0, 1, 1], [0, 0, 0, 0], [0, 0, 1, 2]],
     [[0, 0, 0, 0], [1, 0, 0, 0], [1, 1, 0, 0], [1, 1, 1, 2]],
 ];

@@ -9,6 +9,7 @@ use native.Mathlib.Omega.{arith}
 use borrow.Author.Tests.{eq-eqb, ne-eqb}
 use lib.Dec.{eqb}
 use lib.ListN.{length, getD}
+use Rattle.paper.specs.Limits.{max-regs, max-slots}
 use Rattle.lists.specs.Region.{region, length-region, getD-region}
 use Rattle.lists.specs.Bits.{bits-from, set-bits}
 use Rattle.paper.specs.Text.{Name, name-same}
@@ -94,7 +95,7 @@ bits-within (suc n) i m s h = go (eqb (m % 2) 1) (bits-within n (i + 1) (m / 2) 
     go true q = first-within _ _ (slot-within i (get s (slot i)) (omega arith)) q
     go false q = q
 
-check-within : (words : List ℕ) (a : Action) (s : State) → InRange 32 32 words a → FaultWithin (check (step-of words a) s)
+check-within : (words : List ℕ) (a : Action) (s : State) → InRange max-regs max-slots words a → FaultWithin (check (step-of words a) s)
 unfolding check step-of operands set-bits
 check-within words (Spill k r) s h = tt
 check-within words (Reload r k) s h = tt
@@ -125,5 +126,5 @@ within-of (error.IncorrectValueInSlot k x a) h = h
 within-of (error.StackMapSpecifiesNonRefSlot k) h = h
 within-of (error.StackMapSpecifiesUndefinedSlot k) h = h
 
-pub error-within : (words : List ℕ) (a : Action) (s : State) (e : CheckerError) → InRange 32 32 words a → fault-of e ≡ check (step-of words a) s → ErrorWithin e
+pub error-within : (words : List ℕ) (a : Action) (s : State) (e : CheckerError) → InRange max-regs max-slots words a → fault-of e ≡ check (step-of words a) s → ErrorWithin e
 error-within words a s e h f = within-of e (rw f (check-within words a s h))

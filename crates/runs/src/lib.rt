@@ -216,7 +216,7 @@ pub fn analyze(rule: Rule, words: &mut [u16], queue: &mut [u8])
     requires { ⌜ Loaded (now words) × (missing-allocations (sheet-of (now words)) ≡ []) × (run-words ≤ length (now words)) × (queue-size ≤ length (now queue)) ⌝ }
     ensures { λ r. ⌜ Analysed rule (now (words .entry)) (now (queue .entry)) (now (words .exit)) (now (queue .exit)) ⌝ }
 {
-    let table = cells::MEET;
+    let table = cells::meet_table();
     let mut ring = begin(rule, words, queue);
     let mut visits: usize = 0;
     while 0 < ring.count {

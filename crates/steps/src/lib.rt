@@ -142,7 +142,7 @@ fn head(tag: usize, a: usize, b: usize) -> u16
 }
 
 // The four words of a step.
-fn packed(action: Action) -> [u16; 4]
+fn packed(action: Action) -> [u16; STEP_WORDS]
     requires { ⌜ ((k : ℕ) × Packs k action) ⌝ }
     ensures { λ r. ⌜ r ≡ packed action ⌝ }
 {
@@ -179,7 +179,7 @@ pub fn put_action(words: &mut [u16], k: usize, action: Action)
     let p = packed(action);
     let at = STEP_BASE + k * STEP_WORDS;
     let mut i = 0;
-    while i < 4 {
+    while i < STEP_WORDS {
         words[at + i] = p[i];
         i += 1;
     }
@@ -360,7 +360,7 @@ fn check_stackmap(row: &[u16; 32], mask: u32) -> CheckerError
 
 // What is wrong with a step in a state.
 pub fn check(words: &[u16], s: State, action: Action) -> CheckerError
-    requires { ⌜ InRange 32 32 (now words) action ⌝ }
+    requires { ⌜ InRange max-regs max-slots (now words) action ⌝ }
     ensures { λ r. ⌜ ((regs slots : ℕ) → InRange regs slots (now (words .entry)) action → fault-of r ≡ paper.check (step-of (now (words .entry)) action) (state-of (regs ∷ slots ∷ []) s)) ⌝ }
 {
     match action {

@@ -2,6 +2,7 @@ use mathlib.Core.Path.{_≡_, refl}
 use Prim.Native.Nat.{_+_, _*_, _-_, _≤_}
 use native.Mathlib.Omega.{arith}
 use lib.ListN.{length, getD}
+use Rattle.paper.specs.Limits.{max-regs, max-slots}
 use Rattle.steps.specs.Laws.{in-range-most}
 use Rattle.sheet.specs.Allocated.{in-range-at, honest-at}
 use Rattle.steps.specs.Actions.{action-at, InRange}
@@ -33,7 +34,7 @@ ranged c =
     rw (c .action-at .ensures) (in-range-at (s .pre .0 .loaded) _ (s .pre .1) (s .pre .0 .allocated) _ (omega arith))
 
 ranged-32 : (c : tie.After-action-at Inv-loop μ-loop)
-    → InRange 32 32 (c .before .before .before .before .before .before .before .before .before .before .args .words .now) (c .action-at .result)
+    → InRange max-regs max-slots (c .before .before .before .before .before .before .before .before .before .before .args .words .now) (c .action-at .result)
 ranged-32 c =
     let s = c .before .before .before .before .before .before .before .before .before .before in
     let w = within s in

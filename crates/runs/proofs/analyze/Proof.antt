@@ -1,9 +1,8 @@
-use mathlib.Core.Path.{refl}
+-- `analyze` meets its contract: each turn of the loop is one visit of the paper's run, and the bound on visits falls with each.
 use Prim.Native.Nat.{_-_}
 use native.Mathlib.Omega.{arith}
 use borrow.Author.Needs.{needs}
 use Rattle.paper.specs.Runs.{visit-bound}
-use Rattle.cells.specs.Meeting.{meet-table}
 use Rattle.sheet.specs.Loaded.{sheet-of}
 use Rattle.runs.proofs.LawsAnalysis.{Going, going-begins, going-continues, going-left, going-small, going-more, going-ends, analysed-from}
 use Rattle.runs.proofs.analyze.Statement.{statement}
@@ -15,20 +14,23 @@ Inv-loop rule words₀ queue₀ table ring₀ visits₀ words queue ring visits 
 abbrev μ-loop : tie.MeasureT-loop
 μ-loop rule words₀ queue₀ table ring₀ visits₀ words queue ring visits = visit-bound rule (sheet-of words₀) - visits
 
+meet-table-requires : tie.Need-meet-table-requires Inv-loop μ-loop
+meet-table-requires c κs = search needs
+
 begin-requires : tie.Need-begin-requires Inv-loop μ-loop
 begin-requires c κs = search needs
 
 loop-holds : tie.Need-loop-holds Inv-loop μ-loop
 loop-holds c =
     let b = c .before .before .before .before in
-    let a = b .before .before .before .before .before in
+    let a = b .before .before .before .before .before .before in
     going-begins (a .pre .0) (a .pre .1) (b .begin .ensures)
 
 visit-requires : tie.Need-visit-requires Inv-loop μ-loop
-unfolding meet-table
 visit-requires c κs =
     let t = c .before .before .before in
-    (refl, going-continues (t .before .before .loop .inv), t .if1 .taken)
+    let m = t .before .before .before .before .before .before .before .before .before .before in
+    (m .meet-table .ensures, going-continues (t .before .before .loop .inv), t .if1 .taken)
 
 add-visits : tie.Need-add-visits Inv-loop μ-loop
 add-visits c =
@@ -65,6 +67,7 @@ analyze-spec =
     (tie.spec
     Inv-loop
     μ-loop
+    meet-table-requires
     begin-requires
     loop-holds
     visit-requires

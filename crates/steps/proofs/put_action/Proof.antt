@@ -1,6 +1,7 @@
 use mathlib.Core.Path.{_≡_, refl, sym}
 use Prim.Native.Nat.{_≤_, _-_}
 use native.Mathlib.Omega.{arith}
+use Rattle.layout.specs.Layout.{step-words}
 use borrow.Author.Needs.{needs}
 use lib.ListN.{length, getD, length-set}
 use Rattle.lists.specs.Over.{over, over-none, over-step}
@@ -9,10 +10,10 @@ use Rattle.steps.proofs.put_action.Statement.{statement}
 use Rattle.steps.proofs.put_action.Tie as tie
 
 abbrev Inv-loop : tie.InvT-loop
-Inv-loop words₀ k p at i₀ words i = (i ≤ 4) × (length words ≡ length words₀) × (words ≡ over at i (λ j w. getD p j 0) words₀)
+Inv-loop words₀ k p at i₀ words i = (i ≤ step-words) × (length words ≡ length words₀) × (words ≡ over at i (λ j w. getD p j 0) words₀)
 
 abbrev μ-loop : tie.MeasureT-loop
-μ-loop words₀ k p at i₀ words i = 4 - i
+μ-loop words₀ k p at i₀ words i = step-words - i
 
 packed-requires : tie.Need-packed-requires Inv-loop μ-loop
 packed-requires c κs = (c .before .args .k, c .before .pre .2)
@@ -59,7 +60,7 @@ returns : tie.Need-returns Inv-loop μ-loop
 returns c =
     let p = c .before .before in
     let s = p .before .before in
-    let e : c .before .loop .i ≡ 4 = omega arith in
+    let e : c .before .loop .i ≡ step-words = omega arith in
     written _ _ _ _ _ (s .pre .0) (s .pre .1) (s .pre .2) (p .packed .ensures) (rw e at (c .before .loop .inv .2))
 
 pub put-action-spec : {M : Type 1} → statement M
