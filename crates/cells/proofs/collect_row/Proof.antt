@@ -1,3 +1,5 @@
+-- `collect_row` meets its contract: before each turn the first i cells are as the safepoint leaves them, and n - i falls; bit i of
+-- the mask, i being below 32, is clear exactly where the list of its set bits lacks i.
 use mathlib.Core.Logic.{⊎-elim}
 use mathlib.Core.Bool.{cond}
 use mathlib.Core.Path.{_≡_, _∙_}

@@ -1,3 +1,4 @@
+-- `collected` meets its contract: what is no name stays, an unmarked name stays, and a marked one becomes what the rule says.
 use borrow.Author.Needs.{needs}
 use Rattle.cells.proofs.Laws.{collected-unnamed, collected-unmarked, collected-old, collected-house}
 use Rattle.cells.proofs.collected.Statement.{statement}

@@ -1,3 +1,4 @@
+-- `copied` meets its contract: Absent becomes Unknown, and every other kind stays.
 use Rattle.cells.proofs.Laws.{copied-absent, copied-present}
 use Rattle.cells.proofs.copied.Statement.{statement}
 use Rattle.cells.proofs.copied.Tie as tie

@@ -1,3 +1,5 @@
+-- `copy` meets its contract: below its row's count the word that is read means the state's cell, and a word stored in a row is its
+-- cell stored in the state (`copied-cell`).
 use borrow.Author.Needs.{needs}
 use Rattle.cells.proofs.Rows.{copied-cell}
 use Rattle.cells.proofs.copy.Statement.{statement}

@@ -1,3 +1,4 @@
+-- `entry_state` meets its contract: the slots are those of the unreached state, and `real_row` gives the registers.
 use native.Mathlib.Omega.{arith}
 use borrow.Author.Needs.{needs}
 use Rattle.cells.proofs.Rows.{entered}

@@ -1,3 +1,4 @@
+-- `house_changed` meets its contract: what is no name stays; from becomes to with its mark (`renamed`), another name Conflicted.
 use borrow.Author.Needs.{needs}
 use Rattle.cells.proofs.Laws.{house-changed-unnamed, house-changed-same, house-changed-other}
 use Rattle.cells.proofs.house_changed.Statement.{statement}

@@ -1,3 +1,4 @@
+-- `load` meets its contract: the counted words of each row are those that stand at the row's place, and the two rows are the state.
 use borrow.Author.Needs.{needs}
 use Rattle.cells.proofs.Rows.{loaded}
 use Rattle.cells.proofs.load.Statement.{statement}

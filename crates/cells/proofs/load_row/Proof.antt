@@ -1,3 +1,4 @@
+-- `load_row` meets its contract: before each turn the row's first i words are those from `at` on, and n - i falls.
 use mathlib.Core.Path.{_≡_, refl, sym}
 use Prim.Native.Nat.{_+_, _≤_, _-_}
 use native.Mathlib.Omega.{arith}

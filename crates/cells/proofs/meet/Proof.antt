@@ -1,3 +1,5 @@
+-- `meet` meets its contract: each way out gives the word that the table's entry stands for, of two names by name and mark
+-- (`meet-word`); that this word means the paper's meet is shown once for the whole table (`met-meaning`).
 use native.Mathlib.Omega.{arith}
 use borrow.Author.Needs.{needs}
 use Rattle.cells.proofs.Laws.{index-below, met-itself, met-left, met-right, met-conflict, met-marked, met-marks, met-unmarked}

@@ -1,3 +1,5 @@
+-- `meet_row` meets its contract: before each turn the first i words are met with the row's, the others as they were, and `changed`
+-- says whether one of the i is another word now; n - i falls.
 use mathlib.Core.Logic.{⊎-elim}
 use mathlib.Core.Path.{_≡_, refl, sym, _∙_}
 use Prim.Native.Nat.{_+_, _≤_, _<_, _-_}

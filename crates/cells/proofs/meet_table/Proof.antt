@@ -1,3 +1,4 @@
+-- `meet_table` meets its contract: the constant is the definition's table, entry for entry.
 use mathlib.Core.Path.{refl}
 use Rattle.cells.specs.Meeting.{meet-table}
 use Rattle.cells.proofs.meet_table.Statement.{statement}

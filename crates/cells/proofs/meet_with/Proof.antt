@@ -1,3 +1,5 @@
+-- `meet_with` meets its contract: the slots' words begin 32 behind the registers', so the rows are met apart; `met-with` joins them
+-- to one state, where a word that changed means another cell.
 use mathlib.Core.List.{[]}
 use mathlib.Core.Path.{_≡_}
 use native.Mathlib.Omega.{arith}

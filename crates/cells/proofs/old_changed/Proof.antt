@@ -1,3 +1,4 @@
+-- `old_changed` meets its contract: a name becomes to with its mark (`renamed`), anything else becomes to unmarked.
 use borrow.Author.Needs.{needs}
 use Rattle.cells.proofs.Laws.{old-changed-named, old-changed-unnamed}
 use Rattle.cells.proofs.old_changed.Statement.{statement}

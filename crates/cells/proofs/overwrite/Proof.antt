@@ -1,3 +1,4 @@
+-- `overwrite` meets its contract: `overwrite_row` says it of each row, and `every-row` of the state.
 use borrow.Author.Needs.{needs}
 use Rattle.cells.proofs.Rows.{every-row}
 use Rattle.cells.proofs.overwrite.Statement.{statement}

@@ -1,3 +1,4 @@
+-- `overwrite_row` meets its contract: before each turn the first i cells are overwritten, the others as they were; n - i falls.
 use mathlib.Core.Path.{_≡_, _∙_}
 use Prim.Native.Nat.{_≤_, _-_}
 use native.Mathlib.Omega.{arith}

@@ -1,3 +1,4 @@
+-- `overwritten` meets its contract: the name itself becomes Conflicted; another name stays, and so does what is no name.
 use Rattle.cells.proofs.Laws.{overwritten-same, overwritten-other, overwritten-unnamed}
 use Rattle.cells.proofs.overwritten.Statement.{statement}
 use Rattle.cells.proofs.overwritten.Tie as tie

@@ -1,3 +1,5 @@
+-- `real_row` meets its contract: before each turn the first i cells hold their registers' own names, unmarked, and n - i falls; the
+-- word 3328 + i is that cell where i is below 32 (`own-cell`).
 use mathlib.Core.Bool.{false}
 use mathlib.Core.Path.{_≡_, refl}
 use Prim.Native.Nat.{_≤_, _-_}

@@ -1,3 +1,4 @@
+-- `renamed` meets its contract: the sum's parts do not overlap, so its kind is a name's, its mark w's and its low nine bits to's.
 use borrow.Author.Needs.{needs}
 use Rattle.cells.proofs.Laws.{renamed}
 use Rattle.cells.proofs.renamed.Statement.{statement}

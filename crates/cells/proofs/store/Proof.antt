@@ -1,3 +1,5 @@
+-- `store` meets its contract: the slots' words begin 32 behind the registers', so neither row is written over the other; `stored`
+-- joins them to one state, and the words outside its 64 are kept.
 use mathlib.Core.List.{[]}
 use mathlib.Core.Path.{_≡_}
 use native.Mathlib.Omega.{arith}

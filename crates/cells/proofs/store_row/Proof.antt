@@ -1,3 +1,4 @@
+-- `store_row` meets its contract: before each turn the first i words from `at` on are the row's, the rest as before; n - i falls.
 use mathlib.Core.Path.{_≡_, refl, sym}
 use Prim.Native.Nat.{_≤_, _-_}
 use native.Mathlib.Omega.{arith}

@@ -1,3 +1,5 @@
+-- `unreached_state` meets its contract: one case for each rule: every word means its unfilled cell (0 Absent, 1024 Unknown), and
+-- no count is above 32.
 use borrow.Author.Needs.{needs}
 use Rattle.cells.proofs.Rows.{unreached, old-unfilled, house-unfilled}
 use Rattle.cells.proofs.unreached_state.Statement.{statement}

@@ -1,3 +1,4 @@
+-- `update_stackmap` meets its contract: the registers' mask is 0, which lists none; `safepoint-rows` joins the rows to the state.
 use borrow.Author.Needs.{needs}
 use Rattle.cells.proofs.Rows.{safepoint-rows}
 use Rattle.cells.proofs.update_stackmap.Statement.{statement}

@@ -1,3 +1,4 @@
+-- `ends` meets its contract: past the end of the text the byte counts as 0, which is neither; inside it the match's arm says which.
 use mathlib.Core.Path.{_≡_}
 use borrow.Author.Tests.{ne-eqb}
 use native.Mathlib.Omega.{arith}

@@ -1,3 +1,4 @@
+-- `ends_field` meets its contract: its two tests are those of the definition.
 use mathlib.Core.Path.{refl}
 use Rattle.fields.specs.Fields.{ends-field}
 use Rattle.fields.proofs.ends_field.Statement.{statement}

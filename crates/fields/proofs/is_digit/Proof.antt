@@ -1,3 +1,4 @@
+-- `is_digit` meets its contract: its two tests are those of the definition.
 use mathlib.Core.Path.{refl}
 use Rattle.paper.specs.Text.{is-digit}
 use Rattle.fields.proofs.is_digit.Statement.{statement}

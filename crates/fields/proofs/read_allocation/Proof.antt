@@ -1,3 +1,5 @@
+-- `read_allocation` meets its contract: past the text there is no field; where no hyphen stands first, the number is the answer;
+-- behind a hyphen the field ends, at a tab, a line feed or the end of the text, or it is ill-formed.
 use mathlib.Core.Path.{sym, _∙_}
 use native.Mathlib.Omega.{arith}
 use borrow.Author.Tests.{not-true, not-false}

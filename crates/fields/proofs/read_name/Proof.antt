@@ -1,3 +1,5 @@
+-- `read_name` meets its contract: past the text, or without `r` or `v` first, there is no name; behind the letter `read_number`'s
+-- answer makes the name's (`name-behind`).
 use mathlib.Core.Path.{sym, _∙_}
 use Rattle.fields.proofs.Letters.{within-before, name-past, name-other, name-behind}
 use borrow.Author.Needs.{needs}

@@ -1,3 +1,5 @@
+-- `read_number` meets its contract: before each turn the field's bytes before i are n digits, at most 5, of value v and with no
+-- leading zero (`Digits`), so v is below 100,000; each way out decides the whole field, and the text that is left shrinks.
 use mathlib.Core.Path.{_≡_, sym, _∙_}
 use mathlib.Core.Bool.{true, false}
 use mathlib.Core.List.{[]}

@@ -1,3 +1,4 @@
+-- `write_before_number` meets its contract: the byte, and the number behind it (`then`).
 use Rattle.lists.specs.Sets.{then}
 use borrow.Author.Needs.{needs}
 use Rattle.fields.proofs.write_before_number.Statement.{statement}

@@ -1,3 +1,4 @@
+-- `write_byte` meets its contract: one byte is set, and the next place is one further.
 use mathlib.Core.Path.{refl}
 use borrow.Author.Needs.{needs}
 use Rattle.fields.proofs.write_byte.Statement.{statement}

@@ -1,3 +1,4 @@
+-- `write_digit` meets its contract: its test is that of `digit-from`, which is one digit, for which there is room, or none.
 use mathlib.Core.Path.{refl}
 use native.Mathlib.Omega.{arith}
 use borrow.Author.Tests.{le-leb, lt-leb}

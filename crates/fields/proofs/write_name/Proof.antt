@@ -1,3 +1,4 @@
+-- `write_name` meets its contract: the letter that is chosen is the one that the name's text begins with (`spelled`).
 use mathlib.Core.Path.{_≡_, ap}
 use mathlib.Core.List.{_∷_}
 use mathlib.Core.Logic.{⊎-elim}

@@ -1,3 +1,5 @@
+-- `write_number` meets its contract: its five parts, one behind the other (`then`); the room for all is the sum of what each takes
+-- (`digits-room`).
 use native.Mathlib.Omega.{arith}
 use Rattle.lists.specs.Sets.{then}
 use Rattle.paper.specs.Text.{digits}

@@ -1,3 +1,4 @@
+-- `records::allocation_behind` meets its contract: without a tab there is no field; a register is below 100,000, the code of `-`.
 use mathlib.Core.Path.{sym, _∙_}
 use Rattle.fields.specs.Told.{allocation-refused}
 use Rattle.records.proofs.LawsPlaces.{no-field, refused, register-next, no-register-next}

@@ -1,3 +1,4 @@
+-- `records::any_beyond` meets its contract: the numbers from `i` on tell what the first `count` do; one fewer is left each turn.
 use mathlib.Core.Path.{_≡_, refl, sym, _∙_}
 use Prim.Native.Nat.{_-_, _≤_}
 use native.Mathlib.Omega.{arith}

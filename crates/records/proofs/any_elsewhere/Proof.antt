@@ -1,3 +1,4 @@
+-- `records::any_elsewhere` meets its contract: the operands from `i` on tell what all of them do; one fewer is left each turn.
 use mathlib.Core.Path.{_≡_, refl, sym, _∙_}
 use Prim.Native.Nat.{_-_}
 use lib.ListN.{drop}

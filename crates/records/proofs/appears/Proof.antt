@@ -1,3 +1,4 @@
+-- `records::appears` meets its contract: the codes from `i` on tell what those from `from` on do; one fewer is left each turn.
 use mathlib.Core.Path.{_≡_, refl, sym, _∙_}
 use Prim.Native.Nat.{_-_, _≤_}
 use native.Mathlib.Omega.{arith}

@@ -1,3 +1,5 @@
+-- `records::block_line` meets its contract: at most 8 numbers are a `B`, to which of refusals 5 to 8 only 5 applies; anything else
+-- is refusal 3. With number 0 each is below `F`'s count of blocks.
 use native.Mathlib.Omega.{arith}
 use Rattle.records.proofs.LawsTold.{ill-formed, block-told, block-bad, block-within}
 use borrow.Author.Needs.{needs}

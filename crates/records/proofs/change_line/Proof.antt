@@ -1,3 +1,5 @@
+-- `records::change_line` meets its contract: within the limits a name fits nine bits and its mark is that of `T`, so that the tests
+-- are those of refusals 5 and 8; beyond a limit 5 is the lowest, whatever the marks.
 use mathlib.Core.Path.{_≡_, sym, _∙_}
 use mathlib.Core.Bool.{not, Bool·beq}
 use native.Mathlib.Omega.{arith}

@@ -1,3 +1,4 @@
+-- `records::function_beyond` meets its contract: the tests are those of refusal 5, one by one.
 use mathlib.Core.Path.{refl}
 use Rattle.paper.specs.Refusals.{beyond-limit}
 use Rattle.records.proofs.function_beyond.Statement.{statement}

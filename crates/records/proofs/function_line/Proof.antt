@@ -1,3 +1,5 @@
+-- `records::function_line` meets its contract: five numbers are an `F`, to which of refusals 5 to 8 only 5 applies; any other count
+-- is refusal 3. With number 0 each value is within its limit.
 use native.Mathlib.Omega.{arith}
 use Rattle.paper.specs.Refusals.{blank}
 use Rattle.records.proofs.LawsTold.{ill-formed, function-told, function-bad, function-within}

@@ -1,3 +1,5 @@
+-- `records::group_beyond` meets its contract: above 8 the count decides; else the operands from `i` on tell what the whole group
+-- does, and one fewer is left each turn.
 use mathlib.Core.Path.{_≡_, refl, sym, _∙_}
 use Prim.Native.Nat.{_-_}
 use borrow.Author.Tests.{lt-ltb, le-ltb}

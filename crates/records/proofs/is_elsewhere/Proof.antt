@@ -1,3 +1,4 @@
+-- `records::is_elsewhere` meets its contract: a case for a virtual name, and for a real one a case with a register and one without.
 use borrow.Author.Tests.{lt-ltb, le-ltb}
 use Rattle.paper.specs.Refusals.{elsewhere, is-reg}
 use Rattle.records.specs.Records.{name-of-code, register-of-code}

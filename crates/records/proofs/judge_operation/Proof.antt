@@ -1,3 +1,5 @@
+-- `records::judge_operation` meets its contract: beyond a limit 5 is the lowest; else both groups have at most 8 operands and are
+-- held whole, so that the tests on what is held are those on all operands.
 use Prim.Native.Nat.{_≤_}
 use Rattle.records.proofs.LawsGroups.{group-few, uses-pass, defs-pass, operation-beyond, operation-judged}
 use borrow.Author.Needs.{needs}

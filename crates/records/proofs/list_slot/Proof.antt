@@ -1,3 +1,5 @@
+-- `records::list_slot` meets its contract: a case for a slot beyond the limit, one out of order, and one in order: its bit is above
+-- all of the mask's, so it comes last of the set bits and the sum fits 32 bits.
 use native.Mathlib.Omega.{arith}
 use Rattle.records.proofs.LawsSlots.{one-bit, fits-mask, slot-beyond, slot-disorder, slot-listed}
 use borrow.Author.Needs.{needs}

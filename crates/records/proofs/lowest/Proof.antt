@@ -1,3 +1,4 @@
+-- `records::lowest` meets its contract: one case for each number, with no test before it met.
 use Rattle.records.specs.Records.{lowest}
 use Rattle.records.proofs.lowest.Statement.{statement}
 use Rattle.records.proofs.lowest.Tie as tie

@@ -1,3 +1,4 @@
+-- `records::mark_word` meets its contract: one case for each answer of `refers`.
 use mathlib.Core.Path.{sym, _∙_}
 use Rattle.records.specs.Parts.{mark-word}
 use borrow.Author.Needs.{needs}

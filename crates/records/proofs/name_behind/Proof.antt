@@ -1,3 +1,5 @@
+-- `records::name_behind` meets its contract: without a tab there is no field; a name's number is below 100,000, so a code from
+-- there on is a real name's and any other a virtual one's.
 use mathlib.Core.Path.{sym, _∙_}
 use native.Mathlib.Omega.{arith}
 use Rattle.fields.specs.Told.{name-refused}

@@ -1,3 +1,4 @@
+-- `records::name_beyond` meets its contract: one case for a virtual name, one for a real one.
 use borrow.Author.Tests.{lt-ltb, le-ltb}
 use Rattle.paper.specs.Refusals.{name-beyond}
 use Rattle.records.specs.Records.{name-of-code}

@@ -1,3 +1,4 @@
+-- `records::name_word` meets its contract: one case for a virtual name, one for a real one; a word below 512 fits the cast.
 use native.Mathlib.Omega.{arith}
 use borrow.Author.Tests.{lt-ltb, le-ltb}
 use Rattle.records.specs.Parts.{name-word}

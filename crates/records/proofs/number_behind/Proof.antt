@@ -1,3 +1,5 @@
+-- `records::number_behind` meets its contract: without a tab there is no field; behind one, what `read_number` tells of the field
+-- is told of the line (`number-next`).
 use mathlib.Core.Path.{sym}
 use Rattle.records.proofs.LawsPlaces.{no-field, number-next}
 use borrow.Author.Needs.{needs}

@@ -1,3 +1,4 @@
+-- `records::operand_behind` meets its contract: a name and the allocation behind it make an operand; without either there is none.
 use Rattle.records.proofs.LawsOperands.{no-name, no-allocation, operand-taken}
 use borrow.Author.Needs.{needs}
 use Rattle.records.proofs.operand_behind.Statement.{statement}

@@ -1,3 +1,4 @@
+-- `records::operand_beyond` meets its contract: `name_beyond` tells of the name; a register is held against `regs`, `-` is none.
 use Rattle.records.proofs.LawsGroups.{operand-limit}
 use borrow.Author.Needs.{needs}
 use Rattle.records.proofs.operand_beyond.Statement.{statement}

@@ -1,3 +1,4 @@
+-- `records::operand_word` meets its contract: each part is stated by its function; the most, 63 * 1024 + 512 + 511, fits 16 bits.
 use native.Mathlib.Omega.{arith}
 use Rattle.records.specs.Parts.{word}
 use Rattle.records.proofs.LawsWords.{mark-most}

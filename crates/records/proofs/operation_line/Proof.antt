@@ -1,3 +1,5 @@
+-- `records::operation_line` meets its contract: a bad field, or one too many, is refusal 3; with number 0 each group has at most 8
+-- operands within the limits, so its words mean them, and the uses' words end before the defs' begin.
 use mathlib.Core.Path.{_≡_, sym, _∙_}
 use mathlib.Core.Option.{some}
 use native.Mathlib.Omega.{arith}

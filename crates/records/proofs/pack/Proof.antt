@@ -1,3 +1,4 @@
+-- `records::pack` meets its contract: from `from` on the words of the first `i` operands stand, one more each turn.
 use mathlib.Core.Path.{_≡_, sym}
 use Prim.Native.Nat.{_-_, _≤_}
 use native.Mathlib.Omega.{arith}

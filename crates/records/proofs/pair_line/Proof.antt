@@ -1,3 +1,5 @@
+-- `records::pair_line` meets its contract: two numbers are the step, to which of refusals 5 to 8 only 5 applies (`Paired`); any
+-- other count is refusal 3.
 use native.Mathlib.Omega.{arith}
 use Rattle.records.proofs.LawsTold.{ill-formed, pair-told, pair-bad, pair-within}
 use borrow.Author.Needs.{needs}

@@ -1,3 +1,5 @@
+-- `records::read_change` meets its contract: the fields are taken in the paper's order, each where the last one ended; a bad one,
+-- or one too many, leaves no `C`.
 use mathlib.Core.Path.{sym, _∙_}
 use mathlib.Core.Bool.{true≢false}
 use Rattle.fields.specs.declared.Number.the-variants.{Value}

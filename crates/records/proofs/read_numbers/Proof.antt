@@ -1,3 +1,5 @@
+-- `records::read_numbers` meets its contract: the line's numbers are those kept and those behind `i`, which moves on each turn; a
+-- bad field or a ninth number leaves no list of at most 8.
 use mathlib.Core.Path.{refl}
 use Prim.Native.Nat.{_-_}
 use native.Mathlib.Omega.{arith}

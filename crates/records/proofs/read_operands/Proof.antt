@@ -1,3 +1,5 @@
+-- `records::read_operands` meets its contract: the group is the operands read and the `n - count` behind `i`, one fewer each turn;
+-- the first 8 of those read are kept, and a bad one leaves no group.
 use mathlib.Core.Path.{refl, sym}
 use mathlib.Core.Bool.{true≢false}
 use mathlib.Core.Logic.{⊎-elim}

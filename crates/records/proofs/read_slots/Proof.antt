@@ -1,3 +1,5 @@
+-- `records::read_slots` meets its contract: the line's slots are those that `listed` tells of and those behind `i`, which moves on
+-- each turn; a bad field leaves none.
 use mathlib.Core.Path.{sym}
 use mathlib.Core.Bool.{true≢false}
 use Prim.Native.Nat.{_-_}

@@ -1,3 +1,4 @@
+-- `records::refers` meets its contract: one case below 256, where a virtual name has its word, and one from there on.
 use borrow.Author.Tests.{lt-ltb, le-ltb}
 use Rattle.records.specs.Parts.{refers}
 use borrow.Author.Needs.{needs}

@@ -1,3 +1,4 @@
+-- `records::register_word` meets its contract: one case for a register, which is below 64 and fits the cast, and one for none.
 use native.Mathlib.Omega.{arith}
 use borrow.Author.Tests.{lt-ltb, le-ltb}
 use Rattle.records.specs.Parts.{register-word}

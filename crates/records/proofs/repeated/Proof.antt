@@ -1,3 +1,5 @@
+-- `records::repeated` meets its contract: the codes from `i` on tell whether one of all repeats: one below the limit is sought
+-- behind its place, any other plays no part; one fewer is left each turn.
 use mathlib.Core.Path.{_≡_, refl, sym, _∙_}
 use mathlib.Core.Logic.{⊎-elim}
 use Prim.Native.Nat.{_-_, _≤_}

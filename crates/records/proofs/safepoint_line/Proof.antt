@@ -1,3 +1,5 @@
+-- `records::safepoint_line` meets its contract: a bad field is refusal 3; else `listed` tells the slots' limit and order, and with
+-- number 0 the mask's set bits are the slots, all below `F`'s count.
 use mathlib.Core.Path.{refl, sym, _∙_}
 use native.Mathlib.Omega.{arith}
 use borrow.Author.Tests.{not-true, not-false}

@@ -1,3 +1,5 @@
+-- `records::typed_line` meets its contract: one number is a `T`; beyond its limit it is refusal 5, and below `least` 6, for there
+-- the order is broken (`Least`); any other count is refusal 3.
 use mathlib.Core.Path.{sym, _∙_}
 use native.Mathlib.Omega.{arith}
 use borrow.Author.Tests.{leb-false, ltb-false}

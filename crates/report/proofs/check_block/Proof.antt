@@ -1,3 +1,5 @@
+-- `check_block` meets its contract: t is the state behind the steps so far, whose faults are noted, and the steps left get fewer.
+-- No allocation is missing, so each step's numbers are below the counts: it can be checked and run, and its line fits 32 bytes.
 use mathlib.Core.Path.{_≡_, refl}
 use Prim.Native.Nat.{_+_, _*_, _-_, _≤_}
 use native.Mathlib.Omega.{arith}

@@ -1,3 +1,4 @@
+-- `count_missing` meets its contract: `count` is how many of the first i operands have no allocation, and `n - i` falls.
 use mathlib.Core.Path.{_≡_, sym, ap}
 use mathlib.Core.Logic.{⊎-elim}
 use Prim.Native.Nat.{_-_, _≤_}

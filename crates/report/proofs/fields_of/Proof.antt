@@ -1,3 +1,4 @@
+-- `fields_of` meets its contract: one case for each error; a register or slot is below 32, so it fits, and a register is not `-`.
 use mathlib.Core.Path.{refl}
 use native.Mathlib.Omega.{arith}
 use Rattle.paper.specs.Report.{kind-of, fault-fields}

@@ -1,3 +1,5 @@
+-- `find_errors` meets its contract: the faults of the blocks so far are noted, at most 32 bytes a step, and the blocks left get
+-- fewer; a sheet has at most 1,024 steps, so there is room for the next block's faults.
 use mathlib.Core.Path.{_≡_, refl}
 use Prim.Native.Nat.{_+_, _*_, _-_, _≤_}
 use native.Mathlib.Omega.{arith}

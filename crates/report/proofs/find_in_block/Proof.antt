@@ -1,3 +1,5 @@
+-- `find_in_block` meets its contract: what is missing in the block is what is missing from `place` on, and `count - place` falls;
+-- of the steps that have something missing the first alone is reported, so it ends the search.
 use Rattle.sheet.specs.Loaded.{first-step}
 use mathlib.Core.Path.{_≡_, sym, _∙_}
 use Prim.Native.Nat.{_+_, _-_, _≤_}

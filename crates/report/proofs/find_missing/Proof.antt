@@ -1,3 +1,5 @@
+-- `find_missing` meets its contract: what is missing in the sheet is what is missing from `block` on, and the blocks left get
+-- fewer; the first block that has something missing gives all that is reported.
 use mathlib.Core.Path.{_≡_, refl, sym, _∙_}
 use Prim.Native.Nat.{_-_, _≤_}
 use native.Mathlib.Omega.{arith}

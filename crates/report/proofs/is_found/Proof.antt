@@ -1,3 +1,4 @@
+-- `is_found` meets its contract: one answer for each case.
 use Rattle.report.specs.Missing.{is-found}
 use borrow.Author.Needs.{needs}
 use Rattle.report.proofs.is_found.Statement.{statement}

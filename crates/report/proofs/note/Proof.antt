@@ -1,3 +1,4 @@
+-- `note` meets its contract: kind 0 is no fault and no line; any other kind is one line, counted or written, of at most 32 bytes.
 use native.Mathlib.Omega.{arith}
 use Rattle.report.proofs.LawsLines.{fields-short}
 use Rattle.report.proofs.LawsPasses.{noted-nothing, noted-counted, noted-written}

@@ -1,3 +1,5 @@
+-- `write_errors` meets its contract: no allocation is missing, so the faults are those that the checks find. Counting them leaves
+-- the report as it is; a header of 16 bytes and 1,024 lines of 32 fit, and the sheet is accepted where the count is 0.
 use native.Mathlib.Omega.{arith}
 use Rattle.report.proofs.LawsLines.{header-short}
 use Rattle.report.proofs.LawsReported.{errors-accepted, errors-faulty, faults-found}

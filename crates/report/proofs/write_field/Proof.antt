@@ -1,3 +1,4 @@
+-- `write_field` meets its contract: behind the tab, what the case of the field says; the room asked for is that of the case.
 use native.Mathlib.Omega.{arith}
 use Rattle.lists.specs.Sets.{then}
 use Rattle.paper.specs.Report.{slot-text}

@@ -1,3 +1,4 @@
+-- `write_fields` meets its contract: its five parts, one behind the other; the room asked for is the sum of theirs (`fields-room`).
 use native.Mathlib.Omega.{arith}
 use Rattle.lists.specs.Sets.{then}
 use Rattle.paper.specs.Report.{behind-tabs}

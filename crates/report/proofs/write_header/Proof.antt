@@ -1,3 +1,4 @@
+-- `write_header` meets its contract: its five parts, one behind the other; the room asked for is the sum of theirs (`header-room`).
 use native.Mathlib.Omega.{arith}
 use Rattle.lists.specs.Sets.{then}
 use Rattle.paper.specs.Report.{behind-tabs}

@@ -1,3 +1,5 @@
+-- `write_missing` meets its contract: the step that was found has an operand with no allocation, so it is an operation, and its
+-- lines are all the sheet's faults: its missing uses, or, when none is missing, its missing defs.
 use mathlib.Core.Path.{_≡_, sym, _∙_, subst}
 use mathlib.Core.Bool.{true, true≢false}
 use mathlib.Core.List.{List, [], _∷_}

@@ -1,3 +1,5 @@
+-- `write_missing_among` meets its contract: the header counts the lines, and there is one at least, so the sheet is faulty; a
+-- header of 16 bytes and eight lines of 32 fit.
 use native.Mathlib.Omega.{arith}
 use Rattle.report.proofs.LawsLines.{header-short}
 use Rattle.report.proofs.LawsReported.{reported-names}

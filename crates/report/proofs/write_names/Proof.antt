@@ -1,3 +1,5 @@
+-- `write_names` meets its contract: after i turns the lines of the first i operands are written, at most 32 bytes for each, and
+-- `n - i` falls.
 use mathlib.Core.Path.{_≡_, refl}
 use Prim.Native.Nat.{_+_, _*_, _-_, _≤_}
 use native.Mathlib.Omega.{arith}

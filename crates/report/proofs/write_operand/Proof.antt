@@ -1,3 +1,4 @@
+-- `write_operand` meets its contract: no line for an operand with an allocation, else one line of kind 1, of at most 32 bytes.
 use mathlib.Core.Path.{refl}
 use native.Mathlib.Omega.{arith}
 use Rattle.report.proofs.LawsLines.{missing-short}

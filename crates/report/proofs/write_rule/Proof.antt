@@ -1,3 +1,4 @@
+-- `write_rule` meets its contract: one case for each rule, its three or five letters one behind the other.
 use Prim.Native.Nat.{_+_, _≤_}
 use native.Mathlib.Omega.{arith}
 use lib.ListN.{length}

@@ -1,3 +1,4 @@
+-- `write_word` meets its contract: below 256 the nine bits are a virtual name, else a real one, and the test tells which.
 use native.Mathlib.Omega.{arith}
 use borrow.Author.Tests.{lt-ltb, le-ltb}
 use Rattle.cells.specs.Packed.{name-of-word}

@@ -1,3 +1,4 @@
+-- `append` meets its contract: the ring is not full, so the byte written is none of those held; they stay, and b comes behind them.
 use borrow.Author.Needs.{needs}
 use Rattle.runs.proofs.LawsQueue.{append-is}
 use Rattle.runs.proofs.append.Statement.{statement}

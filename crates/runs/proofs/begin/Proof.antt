@@ -1,3 +1,5 @@
+-- `begin` meets its contract: every block as it begins, then the entry with its state and waiting alone, is the run's beginning;
+-- the sheet's words are kept, so the entry is still a block.
 use native.Mathlib.Omega.{arith}
 use borrow.Author.Needs.{needs}
 use Rattle.layout.specs.Layout.{blocks-word}

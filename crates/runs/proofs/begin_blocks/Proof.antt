@@ -1,3 +1,5 @@
+-- `begin_blocks` meets its contract: the first b blocks are as the run begins with them, a turn changes block b's words alone, and
+-- `blocks - b` falls.
 use mathlib.Core.Path.{refl}
 use Prim.Native.Nat.{_-_}
 use borrow.Author.Needs.{needs}

@@ -1,3 +1,4 @@
+-- `enter` meets its contract: block b's words get the state and the mark; no others change, so the sheet and the other blocks stay.
 use borrow.Author.Needs.{needs}
 use Rattle.runs.proofs.LawsTable.{entered-is}
 use Rattle.runs.proofs.enter.Statement.{statement}

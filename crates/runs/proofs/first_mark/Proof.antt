@@ -1,3 +1,4 @@
+-- `first_mark` meets its contract: one case for each rule.
 use mathlib.Core.Path.{refl}
 use borrow.Author.Needs.{needs}
 use Rattle.paper.specs.Runs.{before}

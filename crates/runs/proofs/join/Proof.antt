@@ -1,3 +1,5 @@
+-- `join` meets its contract: a block with mark 0 has no state, so it takes the one that comes, and that is new; any other gets the
+-- meet with its own, which is new exactly where a cell changes.
 use borrow.Author.Needs.{needs}
 use Rattle.runs.proofs.LawsTable.{came-first, came-again}
 use Rattle.runs.proofs.join.Statement.{statement}

@@ -1,3 +1,4 @@
+-- `place` meets its contract: the test says whether the place lies round the end; n is at most the size, so once round is enough.
 use mathlib.Core.Path.{sym}
 use native.Mathlib.Omega.{arith}
 use borrow.Author.Needs.{needs}

@@ -1,3 +1,4 @@
+-- `push` meets its contract: where the state is new, the paper's push stores it and appends the block; else the run stays as it is.
 use borrow.Author.Needs.{needs}
 use Rattle.runs.proofs.LawsPush.{moved-new, moved-known}
 use Rattle.runs.proofs.push.Statement.{statement}

@@ -1,3 +1,5 @@
+-- `through` meets its contract: the words hold block b's state and the sheet's steps of b, and `effects` runs these from it; where
+-- no allocation is missing, a loaded sheet's steps can be run.
 use Prim.Native.Nat.{_+_, _*_}
 use native.Mathlib.Omega.{arith}
 use borrow.Author.Needs.{needs}

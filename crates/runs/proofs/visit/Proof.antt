@@ -1,3 +1,5 @@
+-- `visit` meets its contract: after i turns the first i successors have got the result, and `total - i` falls; at the end this is
+-- one visit of the run. Visits begun and blocks that wait are together within the visit bound, so each push has room.
 use Prim.Native.Nat.{ℕ, _+_, _*_, _-_}
 use native.Mathlib.Omega.{arith}
 use borrow.Author.Needs.{needs}

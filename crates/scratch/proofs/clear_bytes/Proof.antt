@@ -1,3 +1,4 @@
+-- `clear_bytes` meets its contract: before each turn the first i bytes are zero and the others as they were; what is left shrinks.
 use Prim.Native.Nat.{_-_}
 use lib.ListN.{length}
 use Rattle.scratch.proofs.Laws.{Cleared, cleared-none, cleared-more, cleared-all}

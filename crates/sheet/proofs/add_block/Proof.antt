@@ -1,3 +1,5 @@
+-- `sheet::add_block` meets its contract: only the next block's words and the count of blocks change (`block-written`), so the words
+-- mean the sheet with that block at its end (`block-stored`).
 use mathlib.Core.Path.{_≡_, ap, _∙_}
 use mathlib.Core.List.{List}
 use Prim.Native.Nat.{ℕ, _+_}

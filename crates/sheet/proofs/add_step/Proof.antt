@@ -1,3 +1,5 @@
+-- `sheet::add_step` meets its contract: only the step's words, its block's total and the count of steps change (`step-written`), so
+-- the words mean the sheet with that step at its end (`step-stored`); a block's total is at most the count, so one more fits.
 use mathlib.Core.Path.{_≡_}
 use Prim.Native.Nat.{ℕ, _+_, _-_, _*_}
 use lib.ListN.{getD}

@@ -1,3 +1,4 @@
+-- `sheet::add_typed` meets its contract: a name in order is marked behind all others, and the next is in order from one more on.
 use native.Mathlib.Omega.{arith}
 use mathlib.Core.Path.{refl}
 use lib.ListN.{length-set}

@@ -1,3 +1,4 @@
+-- `sheet::counts` meets its contract: a word has 16 bits, so each cast keeps its number.
 use native.Mathlib.Omega.{arith}
 use borrow.Author.Needs.{needs}
 use Rattle.sheet.proofs.counts.Statement.{statement}

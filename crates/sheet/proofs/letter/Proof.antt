@@ -1,3 +1,5 @@
+-- `sheet::letter` meets its contract: a byte that ends no field is not the sheet's last, so another follows, which closes the field
+-- of one byte or makes it longer.
 use mathlib.Core.Path.{sym}
 use Rattle.fields.specs.Fields.{ends-field}
 use Rattle.sheet.proofs.LawsText.{letter-none, not-last, letter-one, letter-more}

@@ -1,3 +1,5 @@
+-- `sheet::load` meets its contract: the lines from `at` on, added to the sheet in the words, give what the whole sheet gives, and
+-- each good line moves `at` on; a bad line's number is the sheet's, and at the end too few `B` are refusal 4.
 use mathlib.Core.Path.{_≡_, refl, sym, _∙_}
 use Prim.Native.Nat.{_-_}
 use native.Mathlib.Omega.{arith}

@@ -1,3 +1,4 @@
+-- `sheet::lowest` meets its contract: one case for each way out; the line's own number is at most 8 and fits a byte.
 use borrow.Author.Tests.{eq-eqb, ne-eqb}
 use Rattle.sheet.specs.Reading.{lowest-of}
 use borrow.Author.Needs.{needs}

@@ -1,3 +1,4 @@
+-- `sheet::no_text` meets its contract: an empty sheet is refused; of any other the two tests that are left are the paper's.
 use Rattle.sheet.proofs.LawsText.{no-text-empty, no-text-some}
 use mathlib.Core.Path.{sym}
 use borrow.Author.Needs.{needs}

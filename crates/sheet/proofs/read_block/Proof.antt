@@ -1,3 +1,5 @@
+-- `sheet::read_block` meets its contract: the line's own number and its place give the paper's number; with 0 there is room for a
+-- block, so `F` was read, and each successor is below `F`'s count.
 use mathlib.Core.Path.{_≡_, refl, sym, _∙_}
 use mathlib.Core.Bool.{false}
 use native.Mathlib.Omega.{arith}

@@ -1,3 +1,5 @@
+-- `sheet::read_change` meets its contract: the counts and the typed names in the words are those of the sheet so far, so what
+-- `change_line` tells holds of it; place and count of steps are left to `step_line`.
 use native.Mathlib.Omega.{arith}
 use Rattle.lists.specs.Region.{region, length-region}
 use Rattle.paper.specs.Sheet.{change}

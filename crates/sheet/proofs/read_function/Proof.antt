@@ -1,3 +1,5 @@
+-- `sheet::read_function` meets its contract: the line's own number and its place give the paper's number; with 0 the words are
+-- blank still, and the values are within their limits, so they fit 16 bits.
 use mathlib.Core.Path.{_≡_, sym, _∙_}
 use mathlib.Core.Bool.{false, not}
 use native.Mathlib.Omega.{arith}

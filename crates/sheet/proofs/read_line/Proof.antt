@@ -1,3 +1,5 @@
+-- `sheet::read_line` meets its contract: one case for each letter, whose fields its reader reads as the paper does
+-- (`read-by-letter`), and one for any other first field, refusal 3 (`no-letter`).
 use mathlib.Core.Path.{_≡_, refl, sym, _∙_}
 use native.Mathlib.Omega.{arith}
 use Rattle.paper.specs.Refusals.{by-letter}

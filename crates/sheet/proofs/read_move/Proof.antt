@@ -1,3 +1,5 @@
+-- `sheet::read_move` meets its contract: `pair_line` holds both numbers against `regs`, as the paper does an `M`'s (`move-paired`);
+-- place and count of steps are left to `step_line`.
 use Rattle.records.specs.Pairs.{move-paired}
 use native.Mathlib.Omega.{arith}
 use Rattle.paper.specs.Sheet.{move}

@@ -1,3 +1,5 @@
+-- `sheet::read_operation` meets its contract: the operands are stored behind all that was read, so the sheet so far stays and what
+-- is told of the line still holds; the action finds them where they stand.
 use mathlib.Core.Path.{_≡_, sym, _∙_}
 use native.Mathlib.Omega.{arith}
 use lib.ListN.{getD}

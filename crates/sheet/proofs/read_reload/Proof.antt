@@ -1,3 +1,5 @@
+-- `sheet::read_reload` meets its contract: `pair_line` holds the numbers against `regs` and `slots`, as the paper does an `L`'s
+-- (`reload-paired`); place and count of steps are left to `step_line`.
 use Rattle.records.specs.Pairs.{reload-paired}
 use native.Mathlib.Omega.{arith}
 use Rattle.paper.specs.Sheet.{reload}

@@ -1,3 +1,5 @@
+-- `sheet::read_safepoint` meets its contract: the counts in the words are those of the sheet so far, so what `safepoint_line` tells
+-- holds of it; place and count of steps are left to `step_line`.
 use Rattle.lists.specs.Bits as bits
 use Rattle.paper.specs.Sheet.{safepoint}
 use Rattle.paper.specs.Refusals.{step-record, safepoint-of}

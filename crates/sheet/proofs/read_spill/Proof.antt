@@ -1,3 +1,5 @@
+-- `sheet::read_spill` meets its contract: `pair_line` holds the numbers against `slots` and `regs`, as the paper does an `S`'s
+-- (`spill-paired`); place and count of steps are left to `step_line`.
 use Rattle.records.specs.Pairs.{spill-paired}
 use native.Mathlib.Omega.{arith}
 use Rattle.paper.specs.Sheet.{spill}

@@ -1,3 +1,5 @@
+-- `sheet::read_typed` meets its contract: the line's own number and its place give the paper's number; with 0 `F` was read and no
+-- `B`, and the name is below `vregs` and in order.
 use mathlib.Core.Path.{_≡_, refl, sym, _∙_}
 use mathlib.Core.Bool.{false, not, _||_}
 use native.Mathlib.Omega.{arith}

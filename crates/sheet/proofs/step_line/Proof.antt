@@ -1,3 +1,5 @@
+-- `sheet::step_line` meets its contract: the line's own number, its place and the count of steps give the paper's number; with 0 a
+-- block is open, there is room for a step, and the action fits.
 use mathlib.Core.Path.{_≡_, sym, _∙_}
 use mathlib.Core.Bool.{false}
 use native.Mathlib.Omega.{arith}

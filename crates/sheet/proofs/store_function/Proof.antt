@@ -1,3 +1,4 @@
+-- `sheet::store_function` meets its contract: nine words over blank ones are `F`'s header, with no typed name, block or step yet.
 use native.Mathlib.Omega.{arith}
 use mathlib.Core.Path.{refl}
 use lib.ListN.{length-set}

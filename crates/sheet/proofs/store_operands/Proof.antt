@@ -1,3 +1,4 @@
+-- `sheet::store_operands` meets its contract: from `at` on the first `i` of the 16 words stand, one more each turn.
 use mathlib.Core.Path.{_≡_, refl, sym}
 use Prim.Native.Nat.{_≤_, _-_}
 use native.Mathlib.Omega.{arith}

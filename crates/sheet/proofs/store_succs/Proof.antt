@@ -1,3 +1,5 @@
+-- `sheet::store_succs` meets its contract: from `at` on the first `i` successors stand, one more each turn; each is below 65,536,
+-- so it fits the cast.
 use mathlib.Core.Path.{_≡_, refl, sym}
 use Prim.Native.Nat.{_≤_, _-_}
 use native.Mathlib.Omega.{arith}

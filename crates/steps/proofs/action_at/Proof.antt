@@ -1,3 +1,4 @@
+-- `action_at` meets its contract: one case for each tag; every tag above 4 is a safepoint's (`last-tag`).
 use borrow.Author.Needs.{needs}
 use Rattle.steps.specs.Actions.{action-at, action-of}
 use Rattle.steps.proofs.PackingLaws.{last-tag}

@@ -1,3 +1,5 @@
+-- `check` meets its contract: for `C`, `O` and `P` a law says which fault an error on packed words stands for, the cells that are
+-- read being below the counts; `S`, `L` and `M` have no check (`quiet`).
 use mathlib.Core.Option.{none}
 use mathlib.Core.List.{List, [], _∷_}
 use mathlib.Core.Path.{_≡_, refl}

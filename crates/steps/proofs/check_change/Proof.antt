@@ -1,3 +1,4 @@
+-- `check_change` meets its contract: its two tests are those of `change-error`.
 use borrow.Author.Tests.{eq-eqb, ne-eqb}
 use Rattle.steps.specs.Checks.{change-error}
 use Rattle.steps.proofs.check_change.Statement.{statement}

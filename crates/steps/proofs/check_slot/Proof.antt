@@ -1,3 +1,4 @@
+-- `check_slot` meets its contract: its two tests are those of `slot-error`.
 use borrow.Author.Tests.{eq-eqb, ne-eqb}
 use Rattle.cells.specs.Packed.{marked}
 use Rattle.steps.specs.Checks.{slot-error}

@@ -1,3 +1,5 @@
+-- `check_stackmap` meets its contract: before each turn the bits that are left give the error that all of them give; the lowest is
+-- the next listed slot (`next-slot`), and the mask without it is less.
 use mathlib.Core.Path.{_≡_, refl, sym, _∙_}
 use Prim.Native.Nat.{_<_, _^_}
 use native.Mathlib.Omega.{arith}

@@ -1,3 +1,4 @@
+-- `check_use` meets its contract: its two tests are those of `use-error`.
 use borrow.Author.Tests.{eq-eqb, ne-eqb}
 use borrow.Author.Needs.{needs}
 use Rattle.steps.specs.Checks.{use-error}

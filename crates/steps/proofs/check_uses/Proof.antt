@@ -1,3 +1,5 @@
+-- `check_uses` meets its contract: before each turn the uses that are left give the error that all of them give, and there is one
+-- less each turn (`next-use`); each has a register below 32.
 use mathlib.Core.Path.{_≡_, refl, sym, _∙_}
 use Prim.Native.Nat.{_+_, _/_, _≤_, _<_}
 use native.Mathlib.Omega.{arith}

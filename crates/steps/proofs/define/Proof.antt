@@ -1,3 +1,5 @@
+-- `define` meets its contract: the match leaves the state as it was or, under the house rule, as `overwrite` does; the name is
+-- stored in its register, which is below the count and so not 63 (`defined`).
 use mathlib.Core.List.{[], _∷_}
 use mathlib.Core.Logic.{⊎-elim}
 use mathlib.Core.Path.{_≡_, refl, _∙_}

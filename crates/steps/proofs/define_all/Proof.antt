@@ -1,3 +1,5 @@
+-- `define_all` meets its contract: before each turn the defs that are left, from the state so far, give what all of them give from
+-- the first state; there is one less each turn.
 use mathlib.Core.List.{[], _∷_}
 use mathlib.Core.Path.{_≡_, refl, _∙_}
 use Prim.Native.Nat.{_+_, _/_, _≤_, _<_}

@@ -1,3 +1,5 @@
+-- `effects` meets its contract: before each turn the steps that are left, from the state so far, give what all of them give from
+-- the first state, for marks that are those of `T`; there is one less each turn.
 use mathlib.Core.List.{[], _∷_}
 use mathlib.Core.Bool.{Bool}
 use mathlib.Core.Path.{_≡_, refl, _∙_}

@@ -1,3 +1,4 @@
+-- `inst_of` meets its contract: one case for each kind of step.
 use borrow.Author.Needs.{needs}
 use Rattle.paper.specs.Report.{inst-of}
 use Rattle.steps.specs.Actions.{step-of}

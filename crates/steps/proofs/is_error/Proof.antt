@@ -1,3 +1,4 @@
+-- `is_error` meets its contract: `Nothing` is no error, and each of the six other variants is one (`other`).
 use mathlib.Core.List.{[], _∷_}
 use mathlib.Core.Bool.{true}
 use mathlib.Core.Path.{_≡_, refl}

@@ -1,3 +1,4 @@
+-- `missing` meets its contract: only an operation has operands (`other`); where no use is missing, the defs decide.
 use mathlib.Core.List.{List, [], _∷_}
 use mathlib.Core.Bool.{false}
 use mathlib.Core.Path.{_≡_, refl, sym, _∙_}

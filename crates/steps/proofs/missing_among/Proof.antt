@@ -1,3 +1,4 @@
+-- `missing_among` meets its contract: before each turn the operands that are left tell what all tell; there is one less each turn.
 use mathlib.Core.Path.{_≡_, refl, sym, _∙_}
 use Prim.Native.Nat.{_+_}
 use native.Mathlib.Omega.{arith}

@@ -1,3 +1,4 @@
+-- `packed` meets its contract: one case for each kind of step; `Packs` keeps the two numbers of its first word below 64.
 use native.Mathlib.Omega.{arith}
 use borrow.Author.Needs.{needs}
 use Rattle.steps.specs.Actions.{packed}

@@ -1,3 +1,5 @@
+-- `put_action` meets its contract: before each turn the first i of the step's words are those of `packed`, the others as they were,
+-- and 4 - i falls; taken apart, the four words are the step again (`written`).
 use mathlib.Core.Path.{_≡_, refl, sym}
 use Prim.Native.Nat.{_≤_, _-_}
 use native.Mathlib.Omega.{arith}

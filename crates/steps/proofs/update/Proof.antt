@@ -1,3 +1,5 @@
+-- `update` meets its contract: one case for each kind of step; what the function called says of the state is the paper's effect,
+-- by a law of `EffectLaws` or, for `C`, by `change` itself.
 use mathlib.Core.List.{[], _∷_}
 use mathlib.Core.Path.{_∙_}
 use native.Mathlib.Omega.{arith}
