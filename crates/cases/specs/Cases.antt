@@ -1,5 +1,6 @@
 -- Document 01, "Joins, loops and edges to try": its rows as one table, and one theorem that computes every row from the
--- definitions. A join is a meet of two cells, either way round; a sheet is answered from its own bytes, to the answer's bytes.
+-- definitions. A join is a meet of two cells, either way round; a sheet is answered from its own bytes, to the answer's bytes; a step
+-- takes effect on a state, where a report cannot show it.
 use mathlib.Core.Path.{_≡_, refl}
 use mathlib.Core.Bool.{Bool, true, false, cond}
 use mathlib.Core.List.{List, [], _∷_, _++_, map}
@@ -9,9 +10,11 @@ use Prim.Native.String as Text
 use lib.Dec.{eqb}
 use Rattle.paper.specs.Text.{Bytes, tab, line-feed, virtual}
 use Rattle.paper.specs.Cells.{Cell, absent, unknown, conflicted, named, meet}
+use Rattle.paper.specs.Sheet.{Step, change}
+use Rattle.paper.specs.Steps.{State}
 use Rattle.paper.specs.declared.Rule.{Rule}
 use Rattle.paper.specs.declared.Rule.the-variants.{Old, House}
-use Rattle.cases.specs.Computed.{answer-text}
+use Rattle.cases.specs.Computed.{answer-text, untyped-effect}
 
 -- a line as document 01 prints it, each gap one tab
 bytes-of : String → Bytes
@@ -25,19 +28,23 @@ text (l ∷ ls) = bytes-of l ++ (line-feed ∷ text ls)
 data Row : Type 0 where
   join : (rule : Rule) (left right met : Cell) → Row
   sheet : (rule : Rule) (lines report : List String) → Row
+  effect : (rule : Rule) (x : Step) (before after : State) → Row
 
 -- what a row shows
 data Shown : Type 0 where
   cells : Cell → Cell → Shown
   bytes : Bytes → Shown
+  state : State → Shown
 
 computed : Row → Shown
 computed (join rule left right met) = cells (meet rule left right) (meet rule right left)
 computed (sheet rule ls report) = bytes (answer-text rule (text ls))
+computed (effect rule x before after) = state (untyped-effect rule x before)
 
 expected : Row → Shown
 expected (join rule left right met) = cells met met
 expected (sheet rule ls report) = bytes (text report)
+expected (effect rule x before after) = state after
 
 abbrev v1 : Bool → Cell
 v1 mark = named (virtual 1) mark
@@ -52,6 +59,10 @@ unfilled-slot = "F 2 1 1 4 0" ∷ "B 1 2" ∷ "O 0 0 1 v0 0" ∷ "B 3" ∷ "S 0 
 -- define v0 in r0, move to r1, define v0 in r0 again, use v0 in r1
 abbrev stale-copy : List String
 stale-copy = "F 2 0 1 1 0" ∷ "B" ∷ "O 0 0 1 v0 0" ∷ "M 1 0" ∷ "O 1 0 1 v0 0" ∷ "O 2 1 v0 1 0" ∷ []
+
+-- one slot, and no register
+abbrev slot-holds : Cell → State
+slot-holds c = [] ∷ (c ∷ []) ∷ []
 
 -- `C` on an Unknown slot; then what the slot holds is asked for by another `C` and by a safepoint
 abbrev change-of-unknown : List String
@@ -116,6 +127,8 @@ rows =
     ∷ sheet House stale-copy ("R house 1" ∷ "E 0 3 2 2 r1 - -" ∷ [])
     ∷ sheet Old change-of-unknown ("R old 2" ∷ "E 0 0 0 4 s0 v0 -" ∷ "E 0 2 2 6 s0 - -" ∷ [])
     ∷ sheet House change-of-unknown ("R house 3" ∷ "E 0 0 0 4 s0 v0 -" ∷ "E 0 1 1 4 s0 v1 -" ∷ "E 0 2 2 7 s0 - -" ∷ [])
+    ∷ effect Old (change 0 0 (virtual 0) (virtual 1)) (slot-holds unknown) (slot-holds (v1 false))
+    ∷ effect House (change 0 0 (virtual 0) (virtual 1)) (slot-holds unknown) (slot-holds unknown)
     ∷ sheet Old marked-in-register ("R old 1" ∷ "E 0 2 1 2 r0 - -" ∷ [])
     ∷ sheet House marked-in-register ("R house 1" ∷ "E 0 2 1 2 r0 - -" ∷ [])
     ∷ sheet Old whole-example ("R old 1" ∷ "E 0 2 8 3 r1 v0 r1" ∷ [])
@@ -147,11 +160,12 @@ rows =
     ∷ sheet House (behind "O 0 1 r0 - 0") ("X 7 3" ∷ [])
     ∷ sheet House (behind "O 0 1 r0 2 0") ("X 5 3" ∷ [])
     ∷ sheet House (behind "O 0 9 0") ("X 3 3" ∷ [])
+    ∷ sheet House (behind "O 0 9 r0 0 r1 1 v0 0 v1 0 r0 0 r1 1 v0 0 v1 0 r0 0 0") ("X 5 3" ∷ [])
     ∷ sheet House (behind "O 00 0 0") ("X 3 3" ∷ [])
     ∷ sheet House ("F 0 1 2 1 0" ∷ "T 0" ∷ "B" ∷ "C 0 0 v0 v1" ∷ []) ("X 8 4" ∷ [])
     ∷ []
 
 -- every row of the table holds
 table : map computed rows ≡ map expected rows
-unfolding computed expected text bytes-of answer-text
+unfolding computed expected text bytes-of answer-text untyped-effect
 table = refl

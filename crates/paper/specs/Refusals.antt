@@ -340,7 +340,7 @@ unfoldable pub judged : Option Sheet → Record → Option ℕ → Lined
 judged so-far r none = good (add-record (so-far-of so-far) r)
 judged so-far r (some number) = bad number
 
--- "a line's whole form (3) comes before" the other conditions
+-- 3 is the lowest number that a line can have: its form comes before every other condition
 unfoldable pub read-record : Option Sheet → Option Record → Lined
 read-record so-far none = bad 3
 read-record so-far (some r) = judged so-far r (first-holding (conditions so-far r))

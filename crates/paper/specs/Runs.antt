@@ -88,6 +88,7 @@ list-same d [] (y ∷ b) = no nil≢cons
 list-same d (x ∷ a) [] = no (λ e. nil≢cons (sym e))
 list-same d (x ∷ a) (y ∷ b) = cons-same (d x y) (list-same d a b)
 
+-- "when a cell changes, Absent to Unknown included": states are the same where every cell is
 unfoldable pub state-same : Discrete State
 state-same = list-same (list-same cell-same)
 

@@ -13,7 +13,7 @@ pub record Operand : Type 0 where
   pub name : Name
   pub reg : Option ℕ
 
--- the seven steps, `inst` first where the line has one
+-- the six steps, `inst` first where the line has one
 pub data Step : Type 0 where
   -- `S slot reg` spill
   spill : (slot reg : ℕ) → Step
@@ -57,7 +57,7 @@ unfoldable pub listed : List ℕ → ℕ → Bool
 listed [] n = false
 listed (k ∷ ks) n = eqb k n || listed ks n
 
--- "`T n`: virtual name n is reference-typed. Real names are never reference-typed."
+-- "`T n`: virtual name n is reference-typed." "Real names are never reference-typed."
 unfoldable pub reference-typed : Sheet → Name → Bool
 reference-typed S (real n) = false
 reference-typed S (virtual n) = listed (S .typed) n

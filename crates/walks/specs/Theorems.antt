@@ -1,5 +1,5 @@
 -- The theorems of demand 3 and the visit bounds, in document 01's order, over the definitions of `paper`. They hold for any number
--- of blocks, registers, slots and steps; no limit of document 01 is used. `Closed S` says that the entry and all successors are
+-- of blocks, registers, slots and steps; no limit of document 01 is used but by `read-few`. `Closed S` says that the entry and all successors are
 -- blocks, `Typed S` that no `C` stands between names that differ in being reference-typed (refusal 8): section 6 has both of every
 -- sheet that is read. That real names are never reference-typed stands in the definition of `reference-typed`.
 use mathlib.Core.Path.{_≡_, refl, sym, _∙_, subst}
@@ -65,8 +65,8 @@ effect-distributes = Effects.effect-distributes
 pub effects-distribute : (ref : Name → Bool) (xs : List Step) (s t : State) → effects House ref xs (meet-states House s t) ≡ meet-states House (effects House ref xs s) (effects House ref xs t)
 effects-distribute = Effects.effects-distribute
 
--- Under the old rule neither holds: an effect does not distribute, and a finished run that serves the blocks in another order ends
--- in other states (OldRule.antt has the sheet and both runs, computed; the report differs too).
+-- Under the old rule an effect need not distribute, and a finished run that serves the blocks in another order may end in other
+-- states (OldRule.antt has the sheet and both runs, computed; the report differs too).
 pub old-does-not-distribute : ¬ ((ref : Name → Bool) (x : Step) (s t : State) → effect Old ref x (meet-states Old s t) ≡ meet-states Old (effect Old ref x s) (effect Old ref x t))
 old-does-not-distribute = OldRule.old-does-not-distribute
 
@@ -114,15 +114,20 @@ module _ (rule : Rule) (S : Sheet) (C : Closed S) where
   pub checked-lengths : (b : ℕ) → map length (checked-from rule S b) ≡ S .regs ∷ S .slots ∷ []
   checked-lengths = Loop.checked-lengths rule S C
 
-  pub effect-lengths : (ref : Name → Bool) (x : Step) (s : State) → map length (effect rule ref x s) ≡ map length s
-  effect-lengths = Fits.effect-lengths rule
-
   -- a run that stops because its queue is empty is the whole analysis
   pub stopped-early : (k : ℕ) → (run (flow rule S) k (begin rule S)) .queue ≡ [] → run (flow rule S) k (begin rule S) ≡ analysis rule S
   stopped-early = Loop.stopped-early rule S C
 
+-- an effect keeps the rows' lengths
+pub effect-lengths : (rule : Rule) (ref : Name → Bool) (x : Step) (s : State) → map length (effect rule ref x s) ≡ map length s
+effect-lengths = Fits.effect-lengths
+
+-- 3. There is but one meet over all walks.
+pub meet-unique : (S : Sheet) (b : ℕ) (s t : State) → MeetOverWalks (flow House S) b s → MeetOverWalks (flow House S) b t → s ≡ t
+meet-unique S = Flow.meet-unique (flow House S) (Effects.house-laws S)
+
 module _ (S : Sheet) (C : Closed S) where
-  -- 3. The state that each reached block is checked from is the meet over all walks from the entry. Nothing here asks that no
+  -- The state that each reached block is checked from is the meet over all walks from the entry. Nothing here asks that no
   -- allocation is missing: an operand without one is nowhere, and its effect distributes too.
   pub meet-over-all-walks : (b : ℕ) → HouseWalk S b → MeetOverWalks (flow House S) b (checked-from House S b)
   unfolding checked-from entered
@@ -131,10 +136,6 @@ module _ (S : Sheet) (C : Closed S) where
       at : (t : Option State) → (analysis House S) .table b ≡ t → MeetOverWalks (flow House S) b (entered House S ((analysis House S) .table b))
       at none e = absurd (Ends.house-unreached S C b e w)
       at (some s) e = subst (λ (t : Option State). MeetOverWalks (flow House S) b (entered House S t)) (sym e) (Ends.house-meet-over-walks S C b s e)
-
-  -- There is but one such state.
-  pub meet-unique : (b : ℕ) (s t : State) → MeetOverWalks (flow House S) b s → MeetOverWalks (flow House S) b t → s ≡ t
-  meet-unique = Flow.meet-unique (flow House S) (Effects.house-laws S)
 
   -- Visited blocks are exactly the reached ones.
   pub visited-are-reached : (b : ℕ) → ((s : State) × ((analysis House S) .table b ≡ some s)) ↔ HouseWalk S b
