@@ -17,7 +17,7 @@ class Room:
         shutil.copy(os.path.join(ROOT, 'crates.txt'), place)
         for part, copy in (('crates', shutil.copy), ('target/rlib', os.link), ('target/stamp', shutil.copy)):
             shutil.copytree(os.path.join(ROOT, part), os.path.join(place, part), copy_function=copy)
-        self.rt('dev', 'scratch')
+        self.rt('dev', 'scratch')  # makes an incremental folder, for its name
         made = os.path.join(place, 'target/inc/scratch')
         self.modules = os.listdir(made)[0] if os.path.isdir(made) else None
 
@@ -45,7 +45,7 @@ class Room:
 
 @contextmanager
 def rooms(jobs, kind):
-    """A way to run a job of a list of jobs in one of some rooms each: in order, as many at once as there are rooms."""
+    """Gives a function that runs a job on each item of a list, each in a free room, and yields items and results in order."""
     if not os.path.isdir(os.path.join(ROOT, 'target/stamp')):
         raise SystemExit(f"{kind}: the crates are not proved yet: run 'rt check' first")
     work = tempfile.mkdtemp(prefix=kind + '.', dir=os.path.join(ROOT, 'target'))

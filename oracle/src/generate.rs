@@ -1,6 +1,5 @@
-//! The generator of well-formed sheets: small, tangled, knotted, ordered, large,
-//! allocated, repaired, and allocated with
-//! one wrong step. While it writes steps it keeps a guess of the cells, so that checks often pass.
+//! The generator of well-formed sheets: small, tangled, knotted, ordered, large, allocated, repaired, and allocated with one wrong
+//! step. While it writes steps it keeps a guess of the cells, so that checks often pass.
 
 use crate::damage;
 use crate::house::{house_effect, house_faults};

@@ -8,7 +8,7 @@ use crate::old;
 use crate::plain::{missing, old_run, Wrong, WRONGS};
 use crate::sheet::read;
 
-/// Cases of document 01 and of the design: a sheet, the old report and the house report without their
+/// Cases of document 01 and of its readings: a sheet, the old report and the house report without their
 /// headers. Lines are parted by `/`, fields by blanks.
 pub const CASES: &[(&str, &str, &str)] = &[
     // The whole example.
