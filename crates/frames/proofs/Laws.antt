@@ -11,13 +11,12 @@ use lib.ListN.{length, getD, set, drop, length-append, length-drop, length-set}
 use lib.Seq.{drop-append-seam, drop-drop, getD-set-same, getD-set-other}
 use Rattle.lists.specs.Split.{by-equal}
 use Rattle.paper.specs.Text.{Bytes, line-feed}
-use Rattle.fields.specs.Fields.{number-at, end-at, NumberWithin}
-use Rattle.fields.specs.declared.Number as Number
+use Rattle.fields.specs.Fields.{number-at, end-at}
 use Rattle.fields.specs.declared.Number.the-variants as number
 use Rattle.fields.specs.declared.End as End
 use Rattle.fields.specs.declared.End.the-variants as end
 use Rattle.fields.proofs.End.{the-type}
-use Rattle.frames.specs.Frame.{hash, longest-frame, length-ended, length-behind, length-of, LineLeft}
+use Rattle.frames.specs.Frame.{hash, length-ended, length-behind, length-of, LineLeft}
 use Rattle.frames.specs.declared.Length.the-variants as length-variants
 
 -- ---- a line

@@ -10,7 +10,7 @@ use lib.ListN.{length, getD, take}
 use Rattle.paper.specs.Text.{Bytes}
 use Rattle.paper.specs.Sheet.{Operand, change, Sheet}
 use Rattle.paper.specs.Limits.{max-succs, max-operands}
-use Rattle.paper.specs.Refusals.{step-record, Read, next, _>>=_, numbers-of, operands-of, counted-operands-of, change-of, any, ascending, operand-beyond}
+use Rattle.paper.specs.Refusals.{step-record, Read, _>>=_, numbers-of, operands-of, counted-operands-of, change-of, any, ascending, operand-beyond}
 use Rattle.fields.specs.Fields.{line-end, fields-behind}
 use Rattle.lists.specs.Bits.{set-bits}
 use Rattle.records.specs.declared.Counts.{Counts}

@@ -1,4 +1,5 @@
--- How long a header and a line are, part by part, and that a line has at most 32 bytes.
+-- How long a header and a line are, part by part, and that a line has at most 32 bytes; then what an error's fields stand for: the
+-- line of the fault that the error is.
 use mathlib.Core.Path.{_≡_, refl, ap₂}
 use mathlib.Core.List.{List, [], _∷_}
 use mathlib.Core.Option.{Option, some}

@@ -39,7 +39,7 @@ with-body l body = record {
 
 module _ {l m : List ℕ} (begun : Begun l) (head : SameHead l m) (steps : SameSteps l m (getD l steps-word 0)) where
   -- a word of the header that neither `B` nor a step changes
-  pub same-word : (i : ℕ) → i < opened-word → getD m i 0 ≡ getD l i 0
+  same-word : (i : ℕ) → i < opened-word → getD m i 0 ≡ getD l i 0
   same-word i h = head .words i (omega arith) (λ e. omega arith) (λ e. omega arith)
 
   -- the bounds, where the counts of blocks and steps keep theirs

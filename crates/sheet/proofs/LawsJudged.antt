@@ -14,7 +14,6 @@ use Rattle.paper.specs.Text.{Bytes, number-of, name-of}
 use Rattle.paper.specs.Sheet.{Sheet, Step, safepoint}
 use Rattle.paper.specs.Limits.{max-succs}
 use Rattle.paper.specs.Refusals.{Record, function-record, typed-record, block-record, step-record, _>>=_, next, ended, numbers-of, function-of, typed-of, block-of, two-numbers-of, change-of, counted-operands-of, operation-of, safepoint-of, out-of-place, beyond-limit, out-of-order, real-elsewhere, types-differ, step-too-many, so-far-of, first-holding, conditions, add-record, good, bad, judged, read-record}
-use Rattle.paper.specs.Refusals as paper
 use Rattle.records.specs.Records.{lowest, verdict, Told}
 use Rattle.sheet.specs.Loaded.{sheet-of, so-far}
 use Rattle.sheet.specs.Reading.{lowest-of, lined-of, Alike, Stored, LineRead, begun}
@@ -69,7 +68,7 @@ by-number so x =
     (step-too-many (so-far-of so) x))
 
 module _ (so : Option Sheet) (S : Sheet) (e : so-far-of so ≡ S) (r : Record) where
-  pub refused-line : (read : Option Record) → Alike read r → (lowest-of (verdict S read) (out-of-place so r) (step-too-many S r) ≡ 0 → ⊥)
+  refused-line : (read : Option Record) → Alike read r → (lowest-of (verdict S read) (out-of-place so r) (step-too-many S r) ≡ 0 → ⊥)
       → read-record so read ≡ bad (lowest-of (verdict S read) (out-of-place so r) (step-too-many S r))
   unfolding read-record verdict lowest-of
   refused-line none alike d = refl
@@ -77,7 +76,7 @@ module _ (so : Option Sheet) (S : Sheet) (e : so-far-of so ≡ S) (r : Record) w
       rw (← e) (rw (← alike .place so x refl, ← alike .many (so-far-of so) x refl)
       (by-number so x ∙ judged-option so x _ (rw (alike .place so x refl, alike .many (so-far-of so) x refl, e) d)))
 
-  pub accepted-line : lowest-of (verdict S (some r)) (out-of-place so r) (step-too-many S r) ≡ 0 → read-record so (some r) ≡ good (add-record S r)
+  accepted-line : lowest-of (verdict S (some r)) (out-of-place so r) (step-too-many S r) ≡ 0 → read-record so (some r) ≡ good (add-record S r)
   unfolding judged option-of
   accepted-line d =
       let q : lowest-of (verdict (so-far-of so) (some r)) (out-of-place so r) (step-too-many (so-far-of so) r) ≡ 0 = rw e d in

@@ -17,10 +17,9 @@ use Rattle.paper.specs.Refusals as paper
 use Rattle.layout.specs.Layout.{blocks-word, opened-word, begun-word, block-base, all-words}
 use Rattle.fields.specs.Fields.{line-at, line-end}
 use Rattle.fields.specs.Cursor.{lines-at, lines-past}
-use Rattle.sheet.specs.Loaded.{sheet-of, so-far, Loaded}
+use Rattle.sheet.specs.Loaded.{sheet-of, so-far}
 use Rattle.sheet.specs.Reading.{Blank, Progress, lined-of, LineRead, loading-of, Load}
 use Rattle.sheet.specs.Reading as reading
-use Rattle.sheet.specs.declared.Lined as Lined
 use Rattle.sheet.specs.declared.Lined.the-variants as lined
 use Rattle.sheet.specs.declared.Loading as Loading
 use Rattle.sheet.specs.declared.Loading.the-variants as loading

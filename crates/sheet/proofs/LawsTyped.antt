@@ -8,7 +8,7 @@ use native.Mathlib.Numerals.{add-one}
 use native.Mathlib.Omega.{arith}
 use borrow.Author.Tests.{lt-leb, le-leb, eq-eqb, ne-eqb}
 use lib.Dec.{eqb, leb}
-use lib.ListN.{length, getD, set, replicate}
+use lib.ListN.{length, getD, set}
 use Rattle.lists.specs.Split.{by-test, by-order, and-right}
 use Rattle.paper.specs.Sheet.{listed}
 use Rattle.paper.specs.Refusals.{ascending-from, ascending}
@@ -40,11 +40,6 @@ listed-from k (w ∷ ws) (suc n) =
 -- a name is listed where its word is not 0
 pub listed-marked : (l : List ℕ) (n : ℕ) → listed (marked-from 0 l) n ≡ not (eqb (getD l n 0) 0)
 listed-marked l n = rw zero-add at (listed-from 0 l n)
-
-pub none-marked : (n k : ℕ) → marked-from k (replicate n 0) ≡ []
-unfolding marked-from
-none-marked zero k = refl
-none-marked (suc n) k = none-marked n (suc k)
 
 -- ---- one name more
 

@@ -99,7 +99,7 @@ module _ {l m : List ℕ} (bounds : Bounds l) (head : SameHead l m) (steps : Sam
   same-references (real n) = refl
   same-references (virtual n) = rw (same-typed head (bounds .size) (steps .operands .same-length))
 
-  pub kept-step : (k : ℕ) → k < getD l steps-word 0 → step-of m (action-at m k) ≡ step-of l (action-at l k)
+  kept-step : (k : ℕ) → k < getD l steps-word 0 → step-of m (action-at m k) ≡ step-of l (action-at l k)
   kept-step k h =
       rw (same-action steps k h)
       (same-step (steps .operands) k h (action-at l k) (packs-at l k) (room-within _ _ _ l (action-at l k) (bounds .each-step k h .ranged)))
@@ -119,7 +119,7 @@ module _ {l m : List ℕ} (bounds : Bounds l) (head : SameHead l m) (steps : Sam
       }
 
   module _ (b : ℕ) (h : b < getD l opened-word 0) (same : SameLinks l m b) where
-    pub same-succ-total : succ-total m b ≡ succ-total l b
+    same-succ-total : succ-total m b ≡ succ-total l b
     same-succ-total = same .words succ-total-word (omega arith) (λ e. omega arith)
 
     pub same-first : first-step m b ≡ first-step l b
@@ -151,7 +151,7 @@ module _ {l m : List ℕ} (bounds : Bounds l) (head : SameHead l m) (steps : Sam
         }
 
     module _ (total : step-total m b ≡ step-total l b) where
-      pub kept-block : block-at m b ≡ block-at l b
+      kept-block : block-at m b ≡ block-at l b
       unfolding block-at
       kept-block =
           rw (same-succs, same-first, total, kept-steps (first-step l b) (step-total l b) (bounds .each-block b h .steps))
