@@ -15,7 +15,7 @@ use Rattle.fields.specs.Spelling.{digit-range}
 use Rattle.fields.specs.Cursor.{field-more, field-past, field-end-inside}
 use Rattle.fields.specs.declared.Number.the-variants as number
 
--- ---- a field read as far as its first n digits, up to i
+-- a field read as far as its first n digits, up to i
 
 -- one more than the largest number of n digits
 unfoldable pub lim : ℕ → ℕ
@@ -145,7 +145,7 @@ module _ {s : Bytes} {at v n i : ℕ} (d : Digits s at v n i) where
           λ h. absurd (z (omega (arith, ap length (field-past s at h), ap length ended, d .count)));
     }
 
--- ---- a number written digit by digit
+-- a number written digit by digit
 
 pub digits-room : (v at n : ℕ) → at + length (digits v) ≤ n
     → at + (length (digit-from 10000 v) + length (digit-from 1000 v) + length (digit-from 100 v) + length (digit-from 10 v) + 1) ≤ n

@@ -15,7 +15,7 @@ use Rattle.lists.specs.Split.{by-test}
 use Rattle.paper.specs.Text.{Bytes, tab, line-feed, onto-first, parts, lines, fields}
 use Rattle.fields.specs.Fields.{until, ends-line, ends-field, line-at, field-at, line-end, field-end, fields-behind}
 
--- ---- the bytes before a stop
+-- the bytes before a stop
 
 module _ (stops : ℕ → Bool) where
   until-short : (l : Bytes) → length (until stops l) ≤ length l
@@ -43,7 +43,7 @@ module _ (stops : ℕ → Bool) where
       unfolding until
       until-more e = rw (add-one i, drop-cons s i 0 h, e)
 
--- ---- a field byte by byte
+-- a field byte by byte
 
 module _ (s : Bytes) (i : ℕ) where
   pub field-past : length s ≤ i → field-at s i ≡ []
@@ -77,7 +77,7 @@ module _ (s : Bytes) (i : ℕ) where
       let n : ℕ = length (until ends-field (drop i s)) in
       rw (getD-drop i s n 0) at (until-stopped ends-field (drop i s) (omega (arith, length-drop i s)))
 
--- ---- a line field by field
+-- a line field by field
 
 -- the same for a list that starts with the line
 fields-of : (l : Bytes) → fields (until ends-line l)
@@ -146,7 +146,7 @@ module _ (s : Bytes) (at : ℕ) where
       let n : ℕ = length (until ends-field (drop at s)) in
       rw (line-of-none (drop at s) (rw (getD-drop at s n 0) (ne-eqb _ _ e)))
 
--- ---- a text line by line
+-- a text line by line
 
 lines-none : lines [] ≡ []
 unfolding lines parts

@@ -101,7 +101,7 @@ module _ {s : Bytes} {at : ℕ} where
   pub allocation-refused : allocation-at s at ≡ allocation-read.Bad → Refuses allocation-of s at
   allocation-refused e = rw e at (allocation-tells s at)
 
--- ---- reading what was written
+-- reading what was written
 
 -- no byte of the text ends a field
 unfoldable pub unbroken : Bytes → Bool

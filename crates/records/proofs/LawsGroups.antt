@@ -27,7 +27,7 @@ pub operand-limit : (n r : ℕ) (counts : Counts) {b : Bool} → b ≡ name-beyo
 unfolding operand-beyond reg-beyond register-of-code
 operand-limit n r counts e = by-test (ltb r 100000) (λ t. rw (e, t)) λ t. rw (e, t)
 
--- ---- a search through a group
+-- a search through a group
 
 same-length : {g : Operands} → Roomy g → length (g .names) ≡ length (g .registers)
 same-length room = room .names-room ∙ sym (room .registers-room)
@@ -52,7 +52,7 @@ module _ (g : Operands) (room : Roomy g) (test : Operand → Bool) (i : ℕ) (fe
     unfolding held
     held-on t = any-on _ (g .count) i enough test (operand-of-codes 0 0) _ p at-codes t
 
--- ---- names and registers by their numbers
+-- names and registers by their numbers
 
 codes-names : (count : ℕ) (ns rs : List ℕ) → length ns ≡ length rs → names (take count (operands-of-codes ns rs)) ≡ map name-of-code (take count ns)
 unfolding names operands-of-codes
@@ -126,7 +126,7 @@ module _ {us : List Operand} {g : Operands} (k : Kept us g) where
   group-limit test =
       by-order 8 (g .count) (λ p. rw (k .counted, lt-ltb 8 (g .count) p)) λ p. rw (k .counted) (ap (λ t. ltb 8 (g .count) || any test t) (held-all p))
 
--- ---- the number of an operation
+-- the number of an operation
 
 module _ (counts : Counts) (g : Operands) {b : Bool} (e : b ≡ group-over counts g) (f : b ≡ false) where
   pub group-few : g .count ≤ 8

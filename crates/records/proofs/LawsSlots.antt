@@ -118,7 +118,7 @@ module _ {slots : ℕ} {done : List ℕ} {l : Listed} (h : Listing slots done l)
         bits = λ e f. rw (set-bits-more (l .mask) slot (omega arith) under, h .bits e f);
       }
 
--- ---- the line's slots
+-- the line's slots
 
 -- the slots up to i
 pub record Slotting (s : Bytes) (at slots i : ℕ) (l : Listed) : Type 0 where

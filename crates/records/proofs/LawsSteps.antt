@@ -26,7 +26,7 @@ use Rattle.records.proofs.LawsGroups.{held-all}
 use Rattle.records.proofs.LawsTold.{lowest-none}
 use Rattle.records.proofs.LawsWords.{name-fits, virtual-fits, name-word-means, refers-right}
 
--- ---- `C`
+-- `C`
 
 pub change-no-inst : (s : Bytes) (at : ℕ) → next number-of (fields-behind s at) ≡ none → change-of (fields-behind s at) ≡ none
 unfolding change-of
@@ -120,7 +120,7 @@ pub change-within : {counts : Counts} {inst slot from to from′ to′ : ℕ} �
 change-within c e f =
     record { inst-most = c .inst-most; slot-below = c .slot-below; from-word = rw e (c .from-fits); to-word = rw f (c .to-fits) }
 
--- ---- `P`
+-- `P`
 
 pub safepoint-no-inst : (s : Bytes) (at : ℕ) → next number-of (fields-behind s at) ≡ none → safepoint-of (fields-behind s at) ≡ none
 unfolding safepoint-of
@@ -165,7 +165,7 @@ module _ {s : Bytes} {at inst first : ℕ} (i : Next number-of s at inst first) 
         let a = pow-mono {i = l .least} {j = slots} (r .listing .most) in
         (ltb-false 65535 inst (or-left _ _ (lowest-none _ _ _ _ (sym n ∙ z) .0)), omega (arith, r .listing .room))
 
--- ---- `O`
+-- `O`
 
 pub operation-no-inst : (s : Bytes) (at : ℕ) → next number-of (fields-behind s at) ≡ none → operation-of (fields-behind s at) ≡ none
 unfolding operation-of

@@ -34,7 +34,7 @@ mark-cases : (typed : List ℕ) (n : ℕ) {P : Type 0} → (mark-word typed n �
 unfolding mark-word
 mark-cases typed n f g = by-test (refers typed n) (λ e. f (rw e) e) λ e. g (rw e) e
 
--- ---- one word
+-- one word
 
 pub name-word-means : (n : ℕ) → name-word n < 512 → (n < 100000 → n < 256) → name-of-word (name-word n) ≡ name-of-code n
 unfolding name-of-word name-word name-of-code
@@ -86,7 +86,7 @@ module _ (typed : List ℕ) (n r : ℕ) (small : Small n r) where
   unfolding operand-of register-of
   word-means h = ap₂ (λ a b. record { name = a; reg = b }) word-name (rw word-register (register-word-means r h))
 
--- ---- the words of a group
+-- the words of a group
 
 -- codes within the counts, which are within their limits
 module _ {counts : Counts} (w : CountsWithin counts) (n : ℕ) (b : name-beyond (counted counts) (name-of-code n) ≡ false) where

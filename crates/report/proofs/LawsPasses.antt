@@ -42,7 +42,7 @@ unfolding noted-list noted-size
 noted-then {pass = Count} p q = record { list = q .list ∙ p .list; next = rw length-append (omega arith) }
 noted-then {pass = Write} p q = wrote-noted (rw lines-append (then (noted-wrote p) (noted-wrote q)))
 
--- ---- one step
+-- one step
 
 some-kind : (fault : Fault) → kind-of fault ≡ 0 → ⊥
 unfolding kind-of

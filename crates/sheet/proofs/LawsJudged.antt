@@ -19,7 +19,7 @@ use Rattle.sheet.specs.Loaded.{sheet-of, so-far}
 use Rattle.sheet.specs.Reading.{lowest-of, lined-of, Alike, Stored, LineRead, begun}
 use Rattle.sheet.specs.declared.Lined.the-variants as lined
 
--- ---- numbers
+-- numbers
 
 lowest-most : (a b c d : Bool) → lowest a b c d ≤ 8
 unfolding lowest
@@ -97,7 +97,7 @@ lowest-zero number p m e =
         λ q. absurd (eqb-false number 0 q (rw q at e))
     go false false e = by-test (eqb number 0) (λ q. (eqb-true number 0 q, refl, refl)) λ q. absurd (eqb-false number 0 q (rw q at e))
 
--- ---- kinds of records
+-- kinds of records
 
 bind-some : {A B : Type 0} (P : Type 0) (o : Option A) (f : A → Option B) (x : B) → (o >>= f) ≡ some x → ((a : A) → f a ≡ some x → P) → P
 bind-some P none f x e go = absurd (let z : _≡_ {A = ℕ} 0 1 = cc in omega arith)
@@ -210,7 +210,7 @@ module _ (fs : List Bytes) where
       bind-some P (numbers-of (r₁ .rest)) _ x q₁ λ ns q₂.
       same-step x s (safepoint (r₁ .value) ns) (cc)
 
--- ---- a line
+-- a line
 
 module _ {S : Sheet} {s : Bytes} {at : ℕ} {read : Option Record} {number after : ℕ} {r : Record} (told : Told S s at read number after r) (alike : Alike read r)
     (l : List ℕ) (same : so-far-of (so-far l) ≡ S) (p m : Bool) (place : out-of-place (so-far l) r ≡ p) (many : step-too-many S r ≡ m) where

@@ -44,7 +44,7 @@ ahead-at-first sheet words₀ words e blank same = record {
   few = omega arith;
 }
 
--- ---- a line
+-- a line
 
 good-of : (next n : ℕ) (x : paper.Lined) (P : Type 0) → lined.Good n ≡ lined-of next x → ((S : Sheet) → x ≡ good S → n ≡ next → P) → P
 unfolding lined-of
@@ -94,7 +94,7 @@ module _ {sheet : Bytes} {at line : ℕ} {words₀ words : List ℕ} (ahead : Ah
         meaning = λ S g. absurd (let w : refused n line ≡ loaded S = sym q ∙ g in let z : _≡_ {A = ℕ} 0 1 = cc in omega arith);
       }
 
--- ---- the end
+-- the end
 
 module _ {sheet : Bytes} {at line : ℕ} {words₀ words : List ℕ} (ahead : Ahead sheet at line words₀ words) (ended : length sheet ≤ at) where
   at-end : read sheet ≡ read-end line (so-far words)
@@ -134,7 +134,7 @@ module _ {sheet : Bytes} {at line : ℕ} {words₀ words : List ℕ} (ahead : Ah
             );
           }
 
--- ---- before the first line
+-- before the first line
 
 -- refusal 2
 pub no-sheet : (sheet : Bytes) (words : List ℕ) → no-text sheet ≡ true → Load sheet words words (loading.Refused 2 0)

@@ -16,7 +16,7 @@ use Rattle.sheet.specs.Loaded.{first-step, step-total, succ-total, block
 use Rattle.steps.specs.Laws.{room-within}
 use Rattle.steps.specs.Same.{SameSteps, packs-at, same-action, same-step, same-within, same-honest, steps-alike}
 
--- ---- a run of blocks
+-- a run of blocks
 
 pub length-blocks : (l : List ℕ) (b n : ℕ) → length (blocks-at l b n) ≡ n
 unfolding blocks-at
@@ -65,7 +65,7 @@ pub steps-in-words : (words : List ℕ) (b : ℕ) → b < getD words opened-word
 unfolding sheet-of block-at
 steps-in-words words b h = ap (λ (x : Block). x .steps) (block-from words 0 _ b h ∙ ap (block-at words) (zero-add b))
 
--- ---- one step more
+-- one step more
 
 pub add-step-last : (x : Step) (Bs : List Block) (B : Block)
     → add-step x (Bs ++ (B ∷ [])) ≡ Bs ++ (record { succs = B .succs; steps = B .steps ++ (x ∷ []) } ∷ [])
@@ -79,7 +79,7 @@ unfolding step-count
 step-count-more [] B = omega arith
 step-count-more (A ∷ Bs) B = rw (step-count-more Bs B) (omega arith)
 
--- ---- what a change leaves
+-- what a change leaves
 
 -- the header's words but for how many blocks and steps there are, and the typed names
 pub record SameHead (l m : List ℕ) : Type 0 where
