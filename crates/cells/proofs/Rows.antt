@@ -1,6 +1,6 @@
 -- Rows and states: the steps of the loops, and what two rows make of a state.
 use mathlib.Core.Path.{_≡_, refl, sym, ap, ap₂, _∙_}
-use mathlib.Core.Bool.{Bool, true, false, cond, not, _||_, or-true, or-false}
+use mathlib.Core.Bool.{Bool, true, false, cond, _||_, or-true, or-false}
 use mathlib.Core.List.{List, [], _∷_, map}
 use Prim.Native.Nat.{ℕ, zero, suc, _+_, _-_, _/_, _%_, _^_, _≤_, _<_}
 use native.Mathlib.Nat.{zero-add, pow-suc, div-div-eq-div-mul, mul-comm, div-one, pow-zero, add-zero}
@@ -10,12 +10,12 @@ use borrow.Author.Tests.{eq-eqb, ne-eqb, eqb-true, eqb-false, not-false, le-ltb}
 use lib.Dec.{eqb}
 use lib.ListN.{length, getD, set, take, length-take, length-map, replicate}
 use lib.Seq.{set-getD}
-use Rattle.lists.specs.Over.{over, over-none, over-more, over-step, getD-over-in, getD-over-above}
+use Rattle.lists.specs.Over.{over, over-none, over-more, getD-over-in, getD-over-above}
 use Rattle.lists.specs.Region.{region, length-region, getD-region, region-below, region-above, filled}
 use Rattle.lists.specs.Maps.{any-step, map-set, map-take, take-over, region-over, copied-over}
 use Rattle.lists.specs.Kept.{Kept, kept-over, kept-then}
 use Rattle.lists.specs.Bits.{bits-from, set-bits, no-bits}
-use Rattle.lists.specs.Or.{or-left, or-right}
+use Rattle.lists.specs.Split.{or-left, or-right}
 use Rattle.paper.specs.Text.{Name, real}
 use Rattle.paper.specs.Sheet.{Sheet, listed}
 use Rattle.paper.specs.Cells.{Cell, absent, named}
@@ -59,11 +59,6 @@ pub placed-all : {A : Type 0} (f : A → A) (l : List A) → placed (λ k. f) l 
 unfolding placed
 placed-all f [] = refl
 placed-all f (x ∷ l) = ap (λ t. f x ∷ t) (placed-all f l)
-
-placed-same : {A : Type 0} (f g : ℕ → A → A) (l : List A) → ((i : ℕ) (x : A) → i < length l → f i x ≡ g i x) → placed f l ≡ placed g l
-unfolding placed
-placed-same f g [] e = refl
-placed-same f g (x ∷ l) e = ap₂ (λ a t. a ∷ t) (e 0 x (omega arith)) (placed-same (λ i. f (suc i)) (λ i. g (suc i)) l (λ i y h. e (suc i) y (omega arith)))
 
 -- the loop's end
 pub cells-done : {n : ℕ} {f : ℕ → Cell → Cell} {row₀ row : List ℕ} → Reached n f row₀ row → cells-of n row ≡ placed f (cells-of n row₀)
@@ -117,7 +112,7 @@ unfolding listed
 none-listed f l = rw no-bits (placed-all f l)
 
 -- a state whose two rows were changed, each by its own function
-pub two-rows : (n m : ℕ) (f : ℕ → List Cell → List Cell) (s : List (List ℕ)) (a b : List ℕ) → length s ≡ 2
+two-rows : (n m : ℕ) (f : ℕ → List Cell → List Cell) (s : List (List ℕ)) (a b : List ℕ) → length s ≡ 2
     → cells-of n a ≡ f 0 (cells-of n (getD s 0 [])) → cells-of m b ≡ f 1 (cells-of m (getD (set s 0 a) 1 []))
     → state-of (n ∷ m ∷ []) (set (set s 0 a) 1 b) ≡ placed f (state-of (n ∷ m ∷ []) s)
 unfolding state-of placed
@@ -169,7 +164,7 @@ module _ (at n m : ℕ) (f g : ℕ → ℕ → ℕ) (l l₁ l₂ : List ℕ) (hn
   kept₂ : Kept (at + 32) m l₁ l₂
   kept₂ = rw e₂ (kept-over (at + 32) m g l₁)
 
-  pub kept-rows : Kept at 64 l l₂
+  kept-rows : Kept at 64 l l₂
   kept-rows = kept-then at 64 kept₁ kept₂ (omega arith) (omega arith) (omega arith) (omega arith)
 
   first-row : region at n l₂ ≡ over 0 n f (region at n l)
@@ -218,9 +213,6 @@ module _ (f : ℕ → ℕ → ℕ) (at i : ℕ) (l words : List ℕ) (new : ℕ)
 
   new-is : new ≡ f i (getD l (at + i) 0)
   new-is = en ∙ ap (f i) old-is
-
-  pub word-step : set words (at + i) new ≡ over at (i + 1) f l
-  word-step = over-step at i f l 0 words new h ew en
 
   pub word-moved : (new ≡ getD words (at + i) 0 → ⊥) → true ≡ changes at (i + 1) f l
   unfolding changes

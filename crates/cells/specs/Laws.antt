@@ -28,7 +28,7 @@ pub same-name : (a b : ℕ) → a % 512 ≡ b % 512 → name-of-word a ≡ name-
 unfolding name-of-word
 same-name a b e = rw e
 
-pub other-name : (a b : ℕ) → (a % 512 ≡ b % 512 → ⊥) → name-of-word a ≡ name-of-word b → ⊥
+other-name : (a b : ℕ) → (a % 512 ≡ b % 512 → ⊥) → name-of-word a ≡ name-of-word b → ⊥
 unfolding name-of-word
 other-name a b d = go (ltb (a % 512) 256) (ltb (b % 512) 256) refl refl
   where

@@ -1,4 +1,5 @@
-// Packed cells, their meet by a table, and a state of two rows of cells by value.
+// Packed cells, their meet by a table, and a state of two rows of cells by value. A cell is a u16: its name in the nine low bits
+// (virtual v is v, real r is 256 + r), its mark at 512, and its kind at 1024 (absent 0, unknown 1, conflicted 2, named 3).
 ghost use mathlib.Core.Path.{_≡_};
 ghost use mathlib.Core.Bool.{false, cond};
 ghost use mathlib.Core.List.{List, [], _∷_, map};
@@ -45,7 +46,7 @@ pub fn meet_table() -> [[[u8; 4]; 4]; 2]
 }
 
 // The meet of two cells, by the table that is lent. Most cells that meet are equal, and stay.
-pub fn meet(table: &[[[u8; 4]; 4]; 2], rule: Rule, a: u16, b: u16) -> u16
+fn meet(table: &[[[u8; 4]; 4]; 2], rule: Rule, a: u16, b: u16) -> u16
     requires { ⌜ now table ≡ meet-table ⌝ }
     ensures { λ r. ⌜ (r ≡ meet-word rule a b) × (cell-of r ≡ paper.meet rule (cell-of a) (cell-of b)) ⌝ }
 {

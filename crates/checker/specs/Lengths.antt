@@ -6,7 +6,7 @@ use Prim.Native.Nat.{ℕ, _≤_, _<_}
 use lib.Dec.{ltb}
 use lib.ListN.{length}
 use borrow.Author.Tests.{lt-ltb, le-ltb, ltb-false}
-use Rattle.lists.specs.Or.{or-left, or-right}
+use Rattle.lists.specs.Split.{or-left, or-right}
 use Rattle.paper.specs.Limits.{report-size, words-size, queue-size}
 use Rattle.paper.specs.Answer.{too-short}
 use Rattle.checker.specs.Checked.{lent}

@@ -1,6 +1,6 @@
--- What the loop of `read_number` holds, and what each way out of it tells; then the same for a name and an allocation.
+-- What the loop of `read_number` holds, and what each way out of it tells; and the room of a number written digit by digit.
 use mathlib.Core.Path.{_≡_, refl, sym, ap, _∙_}
-use mathlib.Core.Bool.{Bool, true, false, _&&_, true≢false, and-false}
+use mathlib.Core.Bool.{true, false, _&&_, true≢false, and-false, and-assoc}
 use mathlib.Core.List.{[], _∷_, _++_, append-nil, append-assoc}
 use Prim.Native.Nat.{ℕ, zero, suc, _+_, _-_, _*_, _≤_, _<_}
 use native.Mathlib.Numerals.{add-one}
@@ -15,7 +15,7 @@ use Rattle.fields.specs.Spelling.{digit-range}
 use Rattle.fields.specs.Cursor.{field-more, field-past, field-end-inside}
 use Rattle.fields.specs.declared.Number.the-variants as number
 
--- ---- a field read as far as its first n digits, up to i
+-- a field read as far as its first n digits, up to i
 
 -- one more than the largest number of n digits
 unfoldable pub lim : ℕ → ℕ
@@ -46,11 +46,7 @@ pub record Digits (s : Bytes) (at v n i : ℕ) : Type 0 where
 all-append : (xs ys : Bytes) → all-digits (xs ++ ys) ≡ (all-digits xs && all-digits ys)
 unfolding all-digits
 all-append [] ys = refl
-all-append (x ∷ xs) ys = rw (all-append xs ys) (assoc (is-digit x))
-  where
-    assoc : (x : Bool) → (x && (all-digits xs && all-digits ys)) ≡ ((x && all-digits xs) && all-digits ys)
-    assoc true = refl
-    assoc false = refl
+all-append (x ∷ xs) ys = rw (all-append xs ys) (sym (and-assoc (is-digit x) (all-digits xs) (all-digits ys)))
 
 value-append : (v : ℕ) (xs ys : Bytes) → value-from v (xs ++ ys) ≡ value-from (value-from v xs) ys
 unfolding value-from
@@ -149,7 +145,7 @@ module _ {s : Bytes} {at v n i : ℕ} (d : Digits s at v n i) where
           λ h. absurd (z (omega (arith, ap length (field-past s at h), ap length ended, d .count)));
     }
 
--- ---- a number written digit by digit
+-- a number written digit by digit
 
 pub digits-room : (v at n : ℕ) → at + length (digits v) ≤ n
     → at + (length (digit-from 10000 v) + length (digit-from 1000 v) + length (digit-from 100 v) + length (digit-from 10 v) + 1) ≤ n

@@ -15,27 +15,27 @@ use Rattle.lists.specs.Split.{by-test}
 use Rattle.paper.specs.Text.{Bytes, tab, line-feed, onto-first, parts, lines, fields}
 use Rattle.fields.specs.Fields.{until, ends-line, ends-field, line-at, field-at, line-end, field-end, fields-behind}
 
--- ---- the bytes before a stop
+-- the bytes before a stop
 
 module _ (stops : ℕ → Bool) where
-  pub until-short : (l : Bytes) → length (until stops l) ≤ length l
+  until-short : (l : Bytes) → length (until stops l) ≤ length l
   unfolding until
   until-short [] = omega arith
   until-short (b ∷ bs) = by-test (stops b) (λ e. rw e (omega arith)) λ e. rw e (omega (arith, until-short bs))
 
   -- a stop follows, if anything does
-  pub until-stopped : (l : Bytes) → length (until stops l) < length l → stops (getD l (length (until stops l)) 0) ≡ true
+  until-stopped : (l : Bytes) → length (until stops l) < length l → stops (getD l (length (until stops l)) 0) ≡ true
   unfolding until
   until-stopped [] h = absurd (not-suc-le-zero h)
   until-stopped (b ∷ bs) h = by-test (stops b) (λ e. rw e e) λ e. rw e (let k = rw e at h in until-stopped bs (omega arith))
 
   module _ (s : Bytes) (i : ℕ) where
-    pub until-past : length s ≤ i → until stops (drop i s) ≡ []
+    until-past : length s ≤ i → until stops (drop i s) ≡ []
     unfolding until
     until-past h = rw (drop-of-length-le s h)
 
     module _ (h : i < length s) where
-      pub until-stop : stops (getD s i 0) ≡ true → until stops (drop i s) ≡ []
+      until-stop : stops (getD s i 0) ≡ true → until stops (drop i s) ≡ []
       unfolding until
       until-stop e = rw (drop-cons s i 0 h, e)
 
@@ -43,7 +43,7 @@ module _ (stops : ℕ → Bool) where
       unfolding until
       until-more e = rw (add-one i, drop-cons s i 0 h, e)
 
--- ---- a field byte by byte
+-- a field byte by byte
 
 module _ (s : Bytes) (i : ℕ) where
   pub field-past : length s ≤ i → field-at s i ≡ []
@@ -77,7 +77,7 @@ module _ (s : Bytes) (i : ℕ) where
       let n : ℕ = length (until ends-field (drop i s)) in
       rw (getD-drop i s n 0) at (until-stopped ends-field (drop i s) (omega (arith, length-drop i s)))
 
--- ---- a line field by field
+-- a line field by field
 
 -- the same for a list that starts with the line
 fields-of : (l : Bytes) → fields (until ends-line l)
@@ -146,20 +146,9 @@ module _ (s : Bytes) (at : ℕ) where
       let n : ℕ = length (until ends-field (drop at s)) in
       rw (line-of-none (drop at s) (rw (getD-drop at s n 0) (ne-eqb _ _ e)))
 
-  pub line-end-inside : at ≤ length s → line-end s at ≤ length s
-  unfolding line-end line-at
-  line-end-inside h = omega (arith, until-short ends-line (drop at s), length-drop at s)
+-- a text line by line
 
-  -- a line is closed by a line feed, or by the end of the text
-  pub line-ended : line-end s at < length s → getD s (line-end s at) 0 ≡ line-feed
-  unfolding line-end line-at ends-line
-  line-ended h =
-      let n : ℕ = length (until ends-line (drop at s)) in
-      eqb-true _ _ (rw (getD-drop at s n 0) at (until-stopped ends-line (drop at s) (omega (arith, length-drop at s))))
-
--- ---- a text line by line
-
-pub lines-none : lines [] ≡ []
+lines-none : lines [] ≡ []
 unfolding lines parts
 lines-none = refl
 

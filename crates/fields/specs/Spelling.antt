@@ -14,7 +14,7 @@ use Rattle.lists.specs.Split.{by-test, by-order, and-left, and-right}
 use Rattle.paper.specs.Text.{Bytes, is-digit, all-digits, leading-zero, is-number, value-from, number-of, digit-from, digits, letter-r, letter-v, Name, real, virtual, name-of, name-text}
 use Rattle.fields.specs.Fields.{name-made}
 
--- ---- the digits of a number, by its length
+-- the digits of a number, by its length
 
 one : ℕ → Bytes
 one v = (48 + v % 10) ∷ []
@@ -67,7 +67,7 @@ module _ (v : ℕ) where
       (λ d. subst⁻¹ P (digits-four c d) (p4 c d))
       λ d. subst⁻¹ P (digits-five d) (p5 d)
 
--- ---- what is written is read
+-- what is written is read
 
 digit-of : (v : ℕ) → is-digit (48 + v % 10) ≡ true
 unfolding is-digit
@@ -115,7 +115,7 @@ number-of-digits v h =
     number-is (five v) v (omega arith) (omega arith) (rw (digit-of (v / 10000), digit-of (v / 1000), digit-of (v / 100), digit-of (v / 10), digit-of v)) (lead _ _ top (omega arith))
     (omega (arith, thousands v, hundreds v, tens v, tail v))
 
--- ---- what is read was written
+-- what is read was written
 
 -- the bytes of a field that is a number, and its value
 pub record Number (f : Bytes) (v : ℕ) : Type 0 where
@@ -238,7 +238,7 @@ module _ (v : ℕ) where
   unfolding four three two one
   length-four h = by-order v 1000 (λ a. omega (arith, length-three a)) λ a. rw (digits-four v a h) (omega arith)
 
--- ---- names
+-- names
 
 pub name-of-text : (is-real : Bool) (n : ℕ) → n < 100000 → name-of (name-text (name-made is-real n)) ≡ some (name-made is-real n)
 unfolding name-of name-text name-made

@@ -6,23 +6,22 @@ use mathlib.Core.List.{[], _∷_, _++_, append-nil, append-assoc}
 use mathlib.Core.Option.{Option, none, some}
 use Prim.Native.Nat.{ℕ, _+_, _≤_, _<_}
 use native.Mathlib.Omega.{arith}
-use borrow.Author.Tests.{eq-eqb, ne-eqb, not-true}
-use lib.ListN.{length, getD, drop, take}
+use borrow.Author.Tests.{ne-eqb, not-true}
+use lib.ListN.{length, drop, take}
 use lib.Seq.{sets-eq, drop-at, length-take-le}
 use Rattle.lists.specs.Sets.{Wrote}
 use Rattle.lists.specs.Split.{and-left, and-right}
-use Rattle.paper.specs.Text.{Bytes, tab, line-feed, fields, is-digit, all-digits, number-of, digits, Name, real, virtual, name-of, name-text}
+use Rattle.paper.specs.Text.{Bytes, fields, is-digit, all-digits, number-of, digits, Name, real, virtual, name-of, name-text}
 use Rattle.paper.specs.Refusals.{next, allocation-of}
-use Rattle.fields.specs.Fields.{until, ends-field, line-at, field-at, field-end, fields-behind, number-told, name-told, allocation-told, number-at, name-at, allocation-at, end-at, name-made, allocation-made}
+use Rattle.fields.specs.Fields.{until, ends-field, line-at, field-at, field-end, fields-behind, number-told, name-told, allocation-told, number-at, name-at, allocation-at, name-made, allocation-made}
 use Rattle.fields.specs.Cursor.{fields-at}
-use Rattle.fields.specs.Spelling.{Number, number, digit-range, number-of-digits, name-of-text}
+use Rattle.fields.specs.Spelling.{number, digit-range, number-of-digits, name-of-text}
 use Rattle.fields.specs.declared.Number as Number-read
 use Rattle.fields.specs.declared.Number.the-variants as number-read
 use Rattle.fields.specs.declared.Name as Name-read
 use Rattle.fields.specs.declared.Name.the-variants as name-read
 use Rattle.fields.specs.declared.Allocation as Allocation-read
 use Rattle.fields.specs.declared.Allocation.the-variants as allocation-read
-use Rattle.fields.specs.declared.End.the-variants as end-read
 
 -- the field at `at` says a, as f reads it, and ends at i
 pub record Says {A : Type 0} (f : Bytes → Option A) (s : Bytes) (at : ℕ) (a : A) (i : ℕ) : Type 0 where
@@ -102,17 +101,7 @@ module _ {s : Bytes} {at : ℕ} where
   pub allocation-refused : allocation-at s at ≡ allocation-read.Bad → Refuses allocation-of s at
   allocation-refused e = rw e at (allocation-tells s at)
 
--- what `ends` says of a tab and of a line feed
-module _ (s : Bytes) (at : ℕ) where
-  pub end-tab : getD s at 0 ≡ tab → end-at s at ≡ end-read.Tab
-  unfolding end-at
-  end-tab e = rw (eq-eqb _ _ e)
-
-  pub end-line-feed : getD s at 0 ≡ line-feed → end-at s at ≡ end-read.LineFeed
-  unfolding end-at
-  end-line-feed e = rw e
-
--- ---- reading what was written
+-- reading what was written
 
 -- no byte of the text ends a field
 unfoldable pub unbroken : Bytes → Bool

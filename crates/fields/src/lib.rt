@@ -155,7 +155,7 @@ fn write_digit(out: &mut [u8], at: usize, v: u32, unit: u32) -> usize
 }
 
 // The number's one spelling; of a number above 99,999 the last five digits.
-pub fn write_number(out: &mut [u8], at: usize, v: u32) -> usize
+fn write_number(out: &mut [u8], at: usize, v: u32) -> usize
     requires { ⌜ at + length (digits v) ≤ length (now out) ⌝ }
     ensures { λ r. ⌜ Wrote (now (out .entry)) at (digits v) (now (out .exit)) r ⌝ }
 {

@@ -11,16 +11,15 @@ use lib.ListN.{length, getD, set, drop, length-append, length-drop, length-set}
 use lib.Seq.{drop-append-seam, drop-drop, getD-set-same, getD-set-other}
 use Rattle.lists.specs.Split.{by-equal}
 use Rattle.paper.specs.Text.{Bytes, line-feed}
-use Rattle.fields.specs.Fields.{number-at, end-at, NumberWithin}
-use Rattle.fields.specs.declared.Number as Number
+use Rattle.fields.specs.Fields.{number-at, end-at}
 use Rattle.fields.specs.declared.Number.the-variants as number
 use Rattle.fields.specs.declared.End as End
 use Rattle.fields.specs.declared.End.the-variants as end
 use Rattle.fields.proofs.End.{the-type}
-use Rattle.frames.specs.Frame.{hash, longest-frame, length-ended, length-behind, length-of, LineLeft}
+use Rattle.frames.specs.Frame.{hash, length-ended, length-behind, length-of, LineLeft}
 use Rattle.frames.specs.declared.Length.the-variants as length-variants
 
--- ---- a line
+-- a line
 
 -- so far no line feed came
 pub record Reading (before line : List ℕ) (n : ℕ) : Type 0 where
@@ -48,7 +47,7 @@ module _ {before line : List ℕ} {n : ℕ} (r : Reading before line n) (room : 
     no-feed = λ i h. by-equal i n (λ e q. d (sym (getD-set-same line n b 0 room) ∙ rw e at q)) λ e. earlier i (omega (arith, e));
   }
 
--- ---- what it says
+-- what it says
 
 pub empty-line : (line : Bytes) → length line ≡ 0 → length-variants.Bad ≡ length-of line
 unfolding length-of
@@ -80,7 +79,7 @@ module _ (line : Bytes) where
     not-ended end.LineFeed says ends k = absurd (miss (0 ∷ 2 ∷ []) 1 tt k)
     not-ended end.Neither says ends k = rw (← ends) at (number-ended says)
 
--- ---- the room
+-- the room
 
 pub kept-behind : (n : ℕ) (front l : List ℕ) → n ≤ length l → length (front ++ drop n l) ≡ length l → drop n (front ++ drop n l) ≡ drop n l
 kept-behind n front l h e =

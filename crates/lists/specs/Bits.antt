@@ -2,7 +2,7 @@
 use mathlib.Core.Path.{_≡_, refl, _∙_}
 use mathlib.Core.Bool.{Bool, true, false, cond}
 use mathlib.Core.List.{List, [], _∷_}
-use Prim.Native.Nat.{ℕ, zero, suc, _+_, _-_, _*_, _/_, _%_, _^_, _≤_, _<_}
+use Prim.Native.Nat.{ℕ, zero, suc, _+_, _-_, _*_, _/_, _%_, _^_, _<_}
 use native.Mathlib.Nat.{pow-suc, zero-add}
 use native.Mathlib.Omega.{arith}
 use lib.Dec.{eqb}
@@ -46,13 +46,6 @@ trailing-below zero (suc j) n p h = none n j
 trailing-below (suc k) (suc j) n p h =
     last-bit n
     (λ e. rw (even k n e) (let r = trailing-below k j (n / 2) (omega arith) (omega (arith, rw pow-suc at h)) in omega arith))
-    λ e. rw (odd k n e) (omega arith)
-
-pub power-below : (k n : ℕ) → 0 < n → n < 2 ^ k → 2 ^ trailingZeros k n ≤ n
-power-below zero n p h = absurd (omega arith)
-power-below (suc k) n p h =
-    last-bit n
-    (λ e. rw (even k n e, pow-suc) (omega (arith, power-below k (n / 2) (omega arith) (omega (arith, rw pow-suc at h)))))
     λ e. rw (odd k n e) (omega arith)
 
 bits-even : (k i n : ℕ) → n % 2 ≡ 0 → bits-from (suc k) i n ≡ bits-from k (i + 1) (n / 2)
@@ -103,7 +96,7 @@ unfolding set-bits
 no-bits = bits-none 32 0
 
 -- each set bit of a number below 2 ^ j stands below j
-pub bits-below : (k i m j : ℕ) → m < 2 ^ j → All (λ n. n < i + j) (bits-from k i m)
+bits-below : (k i m j : ℕ) → m < 2 ^ j → All (λ n. n < i + j) (bits-from k i m)
 unfolding bits-from All
 bits-below zero i m j h = tt
 bits-below (suc k) i m zero h =

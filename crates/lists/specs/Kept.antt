@@ -6,7 +6,6 @@ use native.Mathlib.Omega.{arith}
 use lib.ListN.{length, getD, set, length-set}
 use lib.Seq.{getD-set-other}
 use Rattle.lists.specs.Over.{over, length-over, getD-over-below, getD-over-above}
-use Rattle.lists.specs.Region.{region, same-region}
 
 -- `after` is `before` but for the n elements from `at` on
 pub record Kept (at n : ℕ) (before after : List ℕ) : Type 0 where
@@ -47,11 +46,3 @@ kept-set at n l i v hl hr = record {
   below = λ k h. getD-set-other l i k v 0 (λ e. omega arith);
   above = λ k h. getD-set-other l i k v 0 (λ e. omega arith);
 }
-
--- a region that lies wholly below the change, or wholly above it, reads the same
-module _ {at n : ℕ} {l l₁ : List ℕ} (kept : Kept at n l l₁) (b m : ℕ) (fits : b + m ≤ length l) where
-  pub kept-below : b + m ≤ at → region b m l₁ ≡ region b m l
-  kept-below h = same-region b m l l₁ fits (kept .same-length) λ k hk. kept .below (b + k) (omega arith)
-
-  pub kept-above : at + n ≤ b → region b m l₁ ≡ region b m l
-  kept-above h = same-region b m l l₁ fits (kept .same-length) λ k hk. kept .above (b + k) (omega arith)

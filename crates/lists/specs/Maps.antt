@@ -48,7 +48,7 @@ copied-over (suc n) row [] d e h = absurd (omega arith)
 copied-over (suc n) [] (x ∷ l) d e h = absurd (omega arith)
 copied-over (suc n) (y ∷ row) (x ∷ l) d e h = ap (λ t. y ∷ t) (copied-over n row l d (omega arith) (omega arith))
 
--- a loop's step from the front of a list, as `front-step`, whatever the list's length: past the end nothing is stored
+-- `over-step` from the front of a list, whatever the list's length: past the end nothing is stored
 module _ {A : Type 0} where
   any-more : (n : ℕ) (f : ℕ → A → A) (l : List A) (d : A) → set (over 0 n f l) n (f n (getD l n d)) ≡ over 0 (suc n) f l
   unfolding over

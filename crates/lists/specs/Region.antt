@@ -37,15 +37,6 @@ module _ (at n : ℕ) (f : ℕ → ℕ → ℕ) (l : List ℕ) (b m : ℕ) (h : 
   pub region-above : at + n ≤ b → region b m (over at n f l) ≡ region b m l
   region-above q = same-region b m l (over at n f l) h (length-over at n f l) λ k hk. getD-over-above at n f l (b + k) 0 (omega arith)
 
--- what was written there
-pub region-copied : (at : ℕ) (row l : List ℕ) → at + length row ≤ length l → region at (length row) (over at (length row) (λ k x. getD row k 0) l) ≡ row
-region-copied at row l h =
-    let w : List ℕ = over at (length row) (λ k x. getD row k 0) l in
-    let lw : length w ≡ length l = length-over at _ _ l in
-    ext-getD 0 _ _ (length-region at (length row) w (omega arith)) λ k hk.
-    let hr : k < length row = omega (arith, length-region at (length row) w (omega arith)) in
-    getD-region at (length row) w k hr ∙ getD-over-in at (length row) _ l k 0 hr (omega arith)
-
 -- a row that was filled from a region
 pub filled : (at n : ℕ) (l row : List ℕ) → length row ≡ n → at + n ≤ length l → over 0 n (λ k x. getD l (at + k) 0) row ≡ region at n l
 filled at n l row e h =

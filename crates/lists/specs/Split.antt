@@ -1,6 +1,7 @@
--- A fact shown by cases: of a test, of two numbers' order, of their being equal; and what both of two tests tell.
+-- A fact shown by cases: of a test, of two numbers' order, of their being equal; and what it tells that both of two tests hold, or
+-- that neither does.
 use mathlib.Core.Path.{_≡_, refl, sym}
-use mathlib.Core.Bool.{Bool, true, false, _&&_, true≢false}
+use mathlib.Core.Bool.{Bool, true, false, _&&_, _||_, true≢false}
 use Prim.Native.Nat.{ℕ, _≤_, _<_}
 use native.Mathlib.Decide.{decLt}
 use native.Mathlib.Omega.{arith}
@@ -27,3 +28,11 @@ and-left false y e = e
 pub and-right : (x y : Bool) → (x && y) ≡ true → y ≡ true
 and-right true y e = e
 and-right false y e = absurd (true≢false (sym e))
+
+pub or-left : (x y : Bool) → (x || y) ≡ false → x ≡ false
+or-left true y e = e
+or-left false y e = refl
+
+pub or-right : (x y : Bool) → (x || y) ≡ false → y ≡ false
+or-right true y e = absurd (true≢false e)
+or-right false y e = e

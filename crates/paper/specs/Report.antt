@@ -149,6 +149,3 @@ rule-text House = 104 ∷ 111 ∷ 117 ∷ 115 ∷ 101 ∷ []
 -- "Header `R rule count`": the count is the number of `E` lines
 unfoldable pub report-text : Rule → List Line → Bytes
 report-text rule ls = (letter-R ∷ behind-tabs (rule-text rule ∷ digits (length ls) ∷ [])) ++ lines-text ls
-
-unfoldable pub report : Rule → Sheet → Bytes
-report rule S = report-text rule (faults rule S)

@@ -1,6 +1,6 @@
 -- A group of operands judged by what is kept of it: limits, repeats and real names, as document 01 has them of all operands.
 use mathlib.Core.Path.{_≡_, refl, sym, ap, ap₂, _∙_}
-use mathlib.Core.Bool.{Bool, true, false, _&&_, _||_}
+use mathlib.Core.Bool.{Bool, true, false, _&&_, _||_, or-assoc}
 use mathlib.Core.List.{List, [], _∷_, map}
 use mathlib.Core.Option.{some}
 use Prim.Native.Nat.{ℕ, zero, suc, _+_, _-_, _≤_, _<_}
@@ -10,8 +10,7 @@ use borrow.Author.Tests.{lt-ltb, le-ltb, ltb-false}
 use lib.Dec.{leb, ltb}
 use lib.ListN.{length, getD, take, drop}
 use lib.Seq.{take-all}
-use Rattle.lists.specs.Or.{or-left, or-right}
-use Rattle.lists.specs.Split.{by-test, by-order}
+use Rattle.lists.specs.Split.{by-test, by-order, or-left, or-right}
 use Rattle.paper.specs.Text.{name-same}
 use Rattle.paper.specs.Sheet.{Operand, operation}
 use Rattle.paper.specs.Cells.{pick}
@@ -28,14 +27,14 @@ pub operand-limit : (n r : ℕ) (counts : Counts) {b : Bool} → b ≡ name-beyo
 unfolding operand-beyond reg-beyond register-of-code
 operand-limit n r counts e = by-test (ltb r 100000) (λ t. rw (e, t)) λ t. rw (e, t)
 
--- ---- a search through a group
+-- a search through a group
+
+same-length : {g : Operands} → Roomy g → length (g .names) ≡ length (g .registers)
+same-length room = room .names-room ∙ sym (room .registers-room)
 
 module _ (g : Operands) (room : Roomy g) (test : Operand → Bool) (i : ℕ) (few : g .count ≤ 8) where
-  same-length : length (g .names) ≡ length (g .registers)
-  same-length = room .names-room ∙ sym (room .registers-room)
-
   enough : g .count ≤ length (operands-of-codes (g .names) (g .registers))
-  enough = omega (arith, codes-length (g .names) (g .registers) same-length, room .names-room)
+  enough = omega (arith, codes-length (g .names) (g .registers) (same-length room), room .names-room)
 
   pub held-past : g .count ≤ i → any test (drop i (held g)) ≡ false
   unfolding held
@@ -43,7 +42,7 @@ module _ (g : Operands) (room : Roomy g) (test : Operand → Bool) (i : ℕ) (fe
 
   module _ (p : i < g .count) where
     at-codes : getD (operands-of-codes (g .names) (g .registers)) i (operand-of-codes 0 0) ≡ operand-of-codes (getD (g .names) i 0) (getD (g .registers) i 0)
-    at-codes = codes-at (g .names) (g .registers) i (operand-of-codes 0 0) same-length (omega (arith, room .names-room))
+    at-codes = codes-at (g .names) (g .registers) i (operand-of-codes 0 0) (same-length room) (omega (arith, room .names-room))
 
     pub held-here : test (operand-of-codes (getD (g .names) i 0) (getD (g .registers) i 0)) ≡ true → any test (drop i (held g)) ≡ true
     unfolding held
@@ -53,7 +52,7 @@ module _ (g : Operands) (room : Roomy g) (test : Operand → Bool) (i : ℕ) (fe
     unfolding held
     held-on t = any-on _ (g .count) i enough test (operand-of-codes 0 0) _ p at-codes t
 
--- ---- names and registers by their numbers
+-- names and registers by their numbers
 
 codes-names : (count : ℕ) (ns rs : List ℕ) → length ns ≡ length rs → names (take count (operands-of-codes ns rs)) ≡ map name-of-code (take count ns)
 unfolding names operands-of-codes
@@ -110,59 +109,44 @@ all-below limit (suc count) [] h = refl
 all-below limit (suc count) (x ∷ l) h = rw (lt-ltb x limit (h zero), all-below limit count l (λ k. h (suc k)))
 
 module _ {us : List Operand} {g : Operands} (k : Kept us g) where
-  equal-rooms : length (g .names) ≡ length (g .registers)
-  equal-rooms = k .room .names-room ∙ sym (k .room .registers-room)
-
-  pub held-names : repeats name-same (names (held g)) ≡ repeats ℕ-discrete (below 200000 (take (g .count) (g .names)))
+  held-names : repeats name-same (names (held g)) ≡ repeats ℕ-discrete (below 200000 (take (g .count) (g .names)))
   unfolding held
   held-names =
-      rw (codes-names (g .count) (g .names) (g .registers) equal-rooms, repeats-names (take (g .count) (g .names)), all-below 200000 (g .count) (g .names) (k .small))
+      rw (codes-names (g .count) (g .names) (g .registers) (same-length (k .room)), repeats-names (take (g .count) (g .names)), all-below 200000 (g .count) (g .names) (k .small))
 
-  pub held-registers : repeats ℕ-discrete (allocated (held g)) ≡ repeats ℕ-discrete (below 100000 (take (g .count) (g .registers)))
+  held-registers : repeats ℕ-discrete (allocated (held g)) ≡ repeats ℕ-discrete (below 100000 (take (g .count) (g .registers)))
   unfolding held
-  held-registers = rw (codes-registers (g .count) (g .names) (g .registers) equal-rooms)
+  held-registers = rw (codes-registers (g .count) (g .names) (g .registers) (same-length (k .room)))
 
   -- eight operands or fewer are all held
   pub held-all : g .count ≤ 8 → us ≡ held g
   held-all h = sym (take-all 8 us (omega (arith, k .counted))) ∙ k .kept
 
-  pub group-limit : (test : Operand → Bool) → (ltb 8 (length us) || any test us) ≡ (ltb 8 (g .count) || any test (held g))
+  group-limit : (test : Operand → Bool) → (ltb 8 (length us) || any test us) ≡ (ltb 8 (g .count) || any test (held g))
   group-limit test =
       by-order 8 (g .count) (λ p. rw (k .counted, lt-ltb 8 (g .count) p)) λ p. rw (k .counted) (ap (λ t. ltb 8 (g .count) || any test t) (held-all p))
 
--- ---- the number of an operation
+-- the number of an operation
 
 module _ (counts : Counts) (g : Operands) {b : Bool} (e : b ≡ group-over counts g) (f : b ≡ false) where
   pub group-few : g .count ≤ 8
   unfolding group-over
   group-few = ltb-false 8 (g .count) (or-left _ _ (sym e ∙ f))
 
-  pub group-within : any (operand-beyond (counted counts)) (held g) ≡ false
-  unfolding group-over
-  group-within = or-right (ltb 8 (g .count)) _ (sym e ∙ f)
-
 -- the tests of inst, uses and defs
 module _ (inst : ℕ) (gu gd : Bool) (b : (ltb 65535 inst || (gu || gd)) ≡ false) where
-  pub inst-below : inst ≤ 65535
-  inst-below = ltb-false 65535 inst (or-left _ _ b)
-
   pub uses-pass : gu ≡ false
   uses-pass = or-left gu gd (or-right (ltb 65535 inst) _ b)
 
   pub defs-pass : gd ≡ false
   defs-pass = or-right gu gd (or-right (ltb 65535 inst) _ b)
 
-or-regroup : (a b c d e : Bool) → (a || (b || (c || (d || e)))) ≡ (a || ((b || c) || (d || e)))
-or-regroup true b c d e = refl
-or-regroup false true c d e = refl
-or-regroup false false c d e = refl
-
 module _ {us ds : List Operand} {uses defs : Operands} (ku : Kept us uses) (kd : Kept ds defs) (inst : ℕ) (counts : Counts) {gu gd : Bool}
     (eu : gu ≡ group-over counts uses) (ed : gd ≡ group-over counts defs) where
   operation-limit : step-beyond (counted counts) (operation inst us ds) ≡ (ltb 65535 inst || (gu || gd))
   unfolding step-beyond group-over
   operation-limit =
-      or-regroup (ltb 65535 inst) (ltb 8 (length us)) (any (operand-beyond (counted counts)) us) (ltb 8 (length ds)) (any (operand-beyond (counted counts)) ds)
+      ap (λ t. ltb 65535 inst || t) (sym (or-assoc (ltb 8 (length us)) (any (operand-beyond (counted counts)) us) (ltb 8 (length ds) || any (operand-beyond (counted counts)) ds)))
       ∙ ap₂ (λ x y. ltb 65535 inst || (x || y)) (group-limit ku (operand-beyond (counted counts)) ∙ sym eu) (group-limit kd (operand-beyond (counted counts)) ∙ sym ed)
 
   pub operation-beyond : {number : ℕ} → (ltb 65535 inst || (gu || gd)) ≡ true → number ≡ lowest (ltb 65535 inst || (gu || gd)) false false false

@@ -20,7 +20,7 @@ use Rattle.records.specs.Records.{Behind, Next}
 use Rattle.records.specs.Parts.{few-numbers, first-values, NumbersRead}
 use Rattle.records.proofs.LawsPlaces.{tab-or-feed, none-left, ends-here}
 
--- ---- one number more
+-- one number more
 
 some≢none : {A : Type 0} {a : A} → _≡_ {A = Option A} (some a) none → ⊥
 some≢none {A} {a} e = let z : _≡_ {A = ℕ} 0 1 = cc in omega arith
@@ -63,7 +63,7 @@ pub map-same : {A : Type 0} (o : Option A) → o ≡ Option·map (λ a. a) o
 map-same none = refl
 map-same (some a) = refl
 
--- ---- at most eight numbers
+-- at most eight numbers
 
 -- the numbers up to i
 pub record Reading (s : Bytes) (at count : ℕ) (values : List ℕ) (i : ℕ) : Type 0 where
@@ -126,7 +126,7 @@ module _ {s : Bytes} {at count : ℕ} {values : List ℕ} {i : ℕ} (r : Reading
     ends = λ h. ends-here (r .behind) (r .line) f;
   }
 
--- ---- so many numbers and no more
+-- so many numbers and no more
 
 unfoldable pub exactly : ℕ → List Bytes → Option (List ℕ)
 exactly zero fs = ended fs []
@@ -189,7 +189,7 @@ module _ {s : Bytes} {at count : ℕ} {values : List ℕ} {after : ℕ} (r : Num
       rw (t, ne-eqb (length (take count values)) n (λ k. e (sym l ∙ k))))
       λ t. rw t
 
--- ---- the records of numbers alone
+-- the records of numbers alone
 
 -- what `T`, a step of two numbers and `F` make of their numbers
 abbrev pub one-number : List ℕ → Record

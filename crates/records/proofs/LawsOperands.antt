@@ -16,7 +16,7 @@ use Rattle.fields.specs.Fields.{line-end, fields-behind}
 use Rattle.records.specs.Records.{Behind, Next}
 use Rattle.records.specs.Parts.{put-first, NextOperand, operand-of-codes, operands-of-codes, held, OperandsRead}
 
--- ---- one operand
+-- one operand
 
 put-one : (u : Operand) (o : Option (Read (List Operand)))
     → (o >>= λ more. some (record { value = u ∷ more .value; rest = more .rest })) ≡ Option·map (put-first u) o
@@ -41,7 +41,7 @@ module _ {s : Bytes} {at : ℕ} {a : Name} {mid : ℕ} (w : Next name-of s at a 
     operand-taken =
         record { says = unrolled; behind = v .behind; further = omega (arith, w .further, v .further); line = v .line ∙ w .line }
 
--- ---- the first eight in numbers
+-- the first eight in numbers
 
 pub codes-length : (names registers : List ℕ) → length names ≡ length registers → length (operands-of-codes names registers) ≡ length names
 unfolding operands-of-codes
@@ -77,7 +77,7 @@ set-small (x ∷ l) zero a limit h p (suc k) = p (suc k)
 set-small (x ∷ l) (suc i) a limit h p zero = p zero
 set-small (x ∷ l) (suc i) a limit h p (suc k) = set-small l i a limit h (λ j. p (suc j)) k
 
--- ---- a group, one operand after the other
+-- a group, one operand after the other
 
 unfoldable pub put-all : List Operand → Read (List Operand) → Read (List Operand)
 put-all us more = record { value = us ++ more .value; rest = more .rest }

@@ -57,7 +57,7 @@ module _ {s : Bytes} {at : ℕ} (b : Behind s at) where
     closed : field-end s (at + 1) < length s
     closed = by-order (field-end s (at + 1)) (length s) (λ h. h) λ h. absurd (unclosed h)
 
-    pub behind-next : Behind s (field-end s (at + 1))
+    behind-next : Behind s (field-end s (at + 1))
     behind-next =
         record { inside = closed; stops = field-ended s (at + 1) closed; last = b .last; size = b .size }
 
@@ -65,12 +65,12 @@ module _ {s : Bytes} {at : ℕ} (b : Behind s at) where
   stays : field-end s at ≡ at
   stays = field-end-none s at (field-stop s at (b .inside) (b .stops))
 
-  pub line-tab : getD s at 0 ≡ tab → line-end s at ≡ line-end s (at + 1)
+  line-tab : getD s at 0 ≡ tab → line-end s at ≡ line-end s (at + 1)
   line-tab t =
       let e : line-end s at ≡ line-end s (field-end s at + 1) = line-end-tab s at (rw stays t) in
       e ∙ ap (λ (n : ℕ). line-end s (n + 1)) stays
 
-  pub line-feed-here : getD s at 0 ≡ line-feed → line-end s at ≡ at
+  line-feed-here : getD s at 0 ≡ line-feed → line-end s at ≡ at
   line-feed-here f = line-end-none s at (λ t. omega (arith, rw stays at t, f)) ∙ stays
 
   -- no field is left at a line feed, and one is at a tab
@@ -81,7 +81,7 @@ module _ {s : Bytes} {at : ℕ} (b : Behind s at) where
   unfolding ended
   not-ended a f = rw (fields-behind-tab s at (tab-or-feed f), fields-at s (at + 1))
 
-pub line-next : {s : Bytes} {at : ℕ} → Behind s at → getD s at 0 ≡ tab → line-end s (field-end s (at + 1)) ≡ line-end s at
+line-next : {s : Bytes} {at : ℕ} → Behind s at → getD s at 0 ≡ tab → line-end s (field-end s (at + 1)) ≡ line-end s at
 line-next {s} {at} b t =
     let c : Behind s (field-end s (at + 1)) = behind-next b t in
     let i : ℕ = field-end s (at + 1) in
@@ -98,7 +98,7 @@ pub ends-here : {s : Bytes} {at i : ℕ} → Behind s i → line-end s i ≡ lin
 ends-here b e f = record { place = sym (line-feed-here b f) ∙ e; inside = b .inside; feed = f }
 
 -- the next field, taken and refused
-pub taken : {A : Type 0} {f : Bytes → Option A} {s : Bytes} {at : ℕ} {a : A} {i : ℕ} → Behind s at → getD s at 0 ≡ tab → Says f s (at + 1) a i → Next f s at a i
+taken : {A : Type 0} {f : Bytes → Option A} {s : Bytes} {at : ℕ} {a : A} {i : ℕ} → Behind s at → getD s at 0 ≡ tab → Says f s (at + 1) a i → Next f s at a i
 unfolding field-end
 taken {A} {f} {s} {at} {a} {i} b t w = record {
   says = rw (fields-behind-tab s at t) (next-says w);
@@ -137,7 +137,7 @@ unfolding allocation-made register-of-code
 no-register-code r = refl
 
 module _ {s : Bytes} {at : ℕ} {x : Bool} {n i : ℕ} (b : Behind s at) (t : getD s at 0 ≡ tab) where
-  pub name-next : name-at s (at + 1) ≡ name.Value x n i → NameWithin s (at + 1) (name.Value x n i) → (c : ℕ) → name-made x n ≡ name-of-code c
+  name-next : name-at s (at + 1) ≡ name.Value x n i → NameWithin s (at + 1) (name.Value x n i) → (c : ℕ) → name-made x n ≡ name-of-code c
       → Next name-of s at (name-of-code c) i
   name-next e w c k = rw (← k) (taken b t (name-says e))
 

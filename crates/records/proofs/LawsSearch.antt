@@ -7,7 +7,7 @@ use native.Mathlib.Numerals.{add-one}
 use native.Mathlib.Omega.{arith}
 use lib.ListN.{length, getD, take, drop, drop-of-length-le}
 use lib.Seq.{drop-cons, length-take-le, getD-take}
-use Rattle.lists.specs.Or.{or-left, or-right}
+use Rattle.lists.specs.Split.{or-left, or-right}
 use Rattle.paper.specs.Refusals.{any}
 
 module _ {A : Type 0} (l : List A) (count i : ℕ) (h : count ≤ length l) where

@@ -2,7 +2,7 @@
 use mathlib.Core.Path.{_≡_, refl, sym, _∙_}
 use mathlib.Core.Bool.{Bool, true, false, not, _&&_, _||_, true≢false, and-true, and-false, and-assoc, or-true, or-false, or-assoc}
 use mathlib.Core.List.{List, [], _∷_, _++_, append-nil}
-use mathlib.Core.Option.{Option, none, some, Option·map}
+use mathlib.Core.Option.{none, Option·map}
 use Prim.Native.Nat.{ℕ, suc, _+_, _*_, _%_, _^_, _≤_, _<_}
 use native.Mathlib.Nat.{pow-suc}
 use native.Mathlib.Numerals.{add-one}
@@ -48,7 +48,7 @@ fits-mask m least slot p h k =
     let b : 2 ^ suc slot ≤ 2 ^ 32 = pow-mono {i = suc slot} {j = 32} (omega arith) in
     omega (arith, rw (pow-suc 2 slot) at b)
 
-pub listing-none : (slots : ℕ) → Listing slots [] (record { beyond = false; disorder = false; mask = 0; least = 0 })
+listing-none : (slots : ℕ) → Listing slots [] (record { beyond = false; disorder = false; mask = 0; least = 0 })
 unfolding any ascending ascending-from least-behind
 listing-none slots = record {
   beyond-told = refl;
@@ -118,7 +118,7 @@ module _ {slots : ℕ} {done : List ℕ} {l : Listed} (h : Listing slots done l)
         bits = λ e f. rw (set-bits-more (l .mask) slot (omega arith) under, h .bits e f);
       }
 
--- ---- the line's slots
+-- the line's slots
 
 -- the slots up to i
 pub record Slotting (s : Bytes) (at slots i : ℕ) (l : Listed) : Type 0 where

@@ -9,8 +9,7 @@ use native.Mathlib.Omega.{arith}
 use lib.Pow.{pow-mono}
 use lib.Dec.{leb, ltb}
 use lib.ListN.{length, getD}
-use Rattle.lists.specs.Or.{or-left, or-right}
-use Rattle.lists.specs.Split.{by-test}
+use Rattle.lists.specs.Split.{by-test, or-left, or-right}
 use Rattle.paper.specs.Text.{Bytes, line-feed, number-of, Name, real, virtual, name-of}
 use Rattle.paper.specs.Sheet.{Operand, Sheet, change, operation, safepoint}
 use Rattle.paper.specs.Refusals.{step-record, next, ended, change-of, operation-of, safepoint-of, counted-operands-of, numbers-of, any, name-beyond, operand-beyond, reg-beyond, step-beyond, step-out-of-order, beyond-limit, out-of-order, real-elsewhere, types-differ}
@@ -27,7 +26,7 @@ use Rattle.records.proofs.LawsGroups.{held-all}
 use Rattle.records.proofs.LawsTold.{lowest-none}
 use Rattle.records.proofs.LawsWords.{name-fits, virtual-fits, name-word-means, refers-right}
 
--- ---- `C`
+-- `C`
 
 pub change-no-inst : (s : Bytes) (at : ℕ) → next number-of (fields-behind s at) ≡ none → change-of (fields-behind s at) ≡ none
 unfolding change-of
@@ -121,7 +120,7 @@ pub change-within : {counts : Counts} {inst slot from to from′ to′ : ℕ} �
 change-within c e f =
     record { inst-most = c .inst-most; slot-below = c .slot-below; from-word = rw e (c .from-fits); to-word = rw f (c .to-fits) }
 
--- ---- `P`
+-- `P`
 
 pub safepoint-no-inst : (s : Bytes) (at : ℕ) → next number-of (fields-behind s at) ≡ none → safepoint-of (fields-behind s at) ≡ none
 unfolding safepoint-of
@@ -133,11 +132,11 @@ module _ {s : Bytes} {at inst first : ℕ} (i : Next number-of s at inst first) 
   safepoint-bad e = rw (i .says, e)
 
   module _ {slots after : ℕ} {l : Listed} (r : SlotsRead s first slots after l) where
-    pub safepoint-says : safepoint-of (fields-behind s at) ≡ some (step-record (safepoint inst (r .listed-slots)))
+    safepoint-says : safepoint-of (fields-behind s at) ≡ some (step-record (safepoint inst (r .listed-slots)))
     unfolding safepoint-of
     safepoint-says = rw (i .says, r .says)
 
-    pub safepoint-ends : Ends s at after
+    safepoint-ends : Ends s at after
     safepoint-ends = record { place = r .ends .place ∙ i .line; inside = r .ends .inside; feed = r .ends .feed }
 
     pub safepoint-told : {counts : Counts} {S : Sheet} → Counted S counts → slots ≡ counts .slots → {number : ℕ}
@@ -166,7 +165,7 @@ module _ {s : Bytes} {at inst first : ℕ} (i : Next number-of s at inst first) 
         let a = pow-mono {i = l .least} {j = slots} (r .listing .most) in
         (ltb-false 65535 inst (or-left _ _ (lowest-none _ _ _ _ (sym n ∙ z) .0)), omega (arith, r .listing .room))
 
--- ---- `O`
+-- `O`
 
 pub operation-no-inst : (s : Bytes) (at : ℕ) → next number-of (fields-behind s at) ≡ none → operation-of (fields-behind s at) ≡ none
 unfolding operation-of

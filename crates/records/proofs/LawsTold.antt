@@ -9,8 +9,7 @@ use borrow.Author.Tests.{le-leb, lt-leb, le-ltb, lt-ltb, leb-false, ltb-false}
 use lib.Dec.{eqb, leb, ltb}
 use lib.ListN.{length, getD, take}
 use lib.Seq.{getD-take}
-use Rattle.lists.specs.Or.{or-left, or-right}
-use Rattle.lists.specs.Split.{by-order}
+use Rattle.lists.specs.Split.{by-order, or-left, or-right}
 use Rattle.paper.specs.Limits.{max-regs, max-slots, max-vregs, max-blocks}
 use Rattle.paper.specs.Text.{Bytes}
 use Rattle.paper.specs.Sheet.{Step, Sheet}

@@ -10,10 +10,9 @@ use borrow.Author.Tests.{lt-ltb, le-ltb, leb-false, ne-eqb}
 use lib.Dec.{eqb}
 use lib.ListN.{length, getD, take, drop, length-take, length-drop, length-map, List·getD-map}
 use lib.Seq.{ext-getD, getD-take, getD-drop, length-take-le}
-use Rattle.lists.specs.Or.{or-left, or-right}
 use Rattle.lists.specs.Over.{over, length-over, getD-over-in, getD-over-below}
 use Rattle.lists.specs.Region.{region}
-use Rattle.lists.specs.Split.{by-test, by-order}
+use Rattle.lists.specs.Split.{by-test, by-order, or-left, or-right}
 use Rattle.paper.specs.Text.{real}
 use Rattle.paper.specs.Sheet.{Operand, Sheet, reference-typed}
 use Rattle.paper.specs.Refusals.{any, name-beyond, reg-beyond, operand-beyond}
@@ -35,7 +34,7 @@ mark-cases : (typed : List ℕ) (n : ℕ) {P : Type 0} → (mark-word typed n �
 unfolding mark-word
 mark-cases typed n f g = by-test (refers typed n) (λ e. f (rw e) e) λ e. g (rw e) e
 
--- ---- one word
+-- one word
 
 pub name-word-means : (n : ℕ) → name-word n < 512 → (n < 100000 → n < 256) → name-of-word (name-word n) ≡ name-of-code n
 unfolding name-of-word name-word name-of-code
@@ -62,11 +61,11 @@ module _ (typed : List ℕ) (n r : ℕ) (small : Small n r) where
   unfolding word
   low = mark-cases typed n (λ m e. rw m (omega (arith, small .name-small))) λ m e. rw m (omega (arith, small .name-small))
 
-  pub word-register : word typed n r / 1024 ≡ register-word r
+  word-register : word typed n r / 1024 ≡ register-word r
   unfolding word
   word-register = mark-cases typed n (λ m e. rw m (omega (arith, small .name-small))) λ m e. rw m (omega (arith, small .name-small))
 
-  pub word-mark : marked (word typed n r) ≡ refers typed n
+  word-mark : marked (word typed n r) ≡ refers typed n
   unfolding word marked
   word-mark =
       mark-cases typed n
@@ -77,17 +76,17 @@ module _ (typed : List ℕ) (n r : ℕ) (small : Small n r) where
       let k : (register-word r * 1024 + 0 + name-word n) / 512 % 2 ≡ 0 = omega (arith, small .name-small) in
       rw (m, e, k)
 
-  pub word-name : name-of-word (word typed n r) ≡ name-of-code n
+  word-name : name-of-word (word typed n r) ≡ name-of-code n
   unfolding name-of-word
   word-name =
       let e : name-word n % 512 ≡ name-word n = omega (arith, small .name-small) in
       rw low (rw e at (name-word-means n (small .name-small) (small .virtual-small)))
 
-  pub word-means : (r < 100000 → r < 63) → operand-of (word typed n r) ≡ operand-of-codes n r
+  word-means : (r < 100000 → r < 63) → operand-of (word typed n r) ≡ operand-of-codes n r
   unfolding operand-of register-of
   word-means h = ap₂ (λ a b. record { name = a; reg = b }) word-name (rw word-register (register-word-means r h))
 
--- ---- the words of a group
+-- the words of a group
 
 -- codes within the counts, which are within their limits
 module _ {counts : Counts} (w : CountsWithin counts) (n : ℕ) (b : name-beyond (counted counts) (name-of-code n) ≡ false) where
@@ -111,18 +110,18 @@ module _ {counts : Counts} (w : CountsWithin counts) (n : ℕ) (b : name-beyond 
       λ p. rw (le-ltb n 100000 p, le-ltb n 256 (omega arith))
 
 module _ {counts : Counts} (w : CountsWithin counts) (r : ℕ) (b : reg-beyond (counted counts) (register-of-code r) ≡ false) where
-  pub register-below : r < 100000 → r < counts .regs
+  register-below : r < 100000 → r < counts .regs
   unfolding reg-beyond register-of-code
   register-below p = leb-false (counts .regs) r (rw (lt-ltb r 100000 p) at b)
 
-  pub register-fits : register-word r < 64
+  register-fits : register-word r < 64
   unfolding register-word
   register-fits =
       by-order r 100000
       (λ p. rw (lt-ltb r 100000 p) (omega (arith, register-below p, w .regs)))
       λ p. rw (le-ltb r 100000 p) (omega arith)
 
-pub register-word-below : {counts : Counts} (w : CountsWithin counts) (r : ℕ) → reg-beyond (counted counts) (register-of-code r) ≡ false
+register-word-below : {counts : Counts} (w : CountsWithin counts) (r : ℕ) → reg-beyond (counted counts) (register-of-code r) ≡ false
     → (register-word r < counts .regs) ⊎ (register-word r ≡ no-register)
 unfolding register-word
 register-word-below {counts} w r b =
@@ -141,11 +140,11 @@ module _ {counts : Counts} (w : CountsWithin counts) (g : Operands) (room : Room
       rw (codes-at (g .names) (g .registers) k (operand-of-codes 0 0) e (omega (arith, room .names-room)))
       at (any-each (operands-of-codes (g .names) (g .registers)) (g .count) (omega arith) (operand-beyond (counted counts)) (operand-of-codes 0 0) b k h)
 
-  pub name-within : name-beyond (counted counts) (name-of-code (getD (g .names) k 0)) ≡ false
+  name-within : name-beyond (counted counts) (name-of-code (getD (g .names) k 0)) ≡ false
   unfolding operand-beyond
   name-within = or-left _ _ operand-within
 
-  pub register-within : reg-beyond (counted counts) (register-of-code (getD (g .registers) k 0)) ≡ false
+  register-within : reg-beyond (counted counts) (register-of-code (getD (g .registers) k 0)) ≡ false
   unfolding operand-beyond
   register-within = or-right (name-beyond (counted counts) (name-of-code (getD (g .names) k 0))) _ operand-within
 

@@ -10,7 +10,7 @@ use lib.ListN.{length, getD, take}
 use Rattle.paper.specs.Text.{Bytes}
 use Rattle.paper.specs.Sheet.{Operand, change, Sheet}
 use Rattle.paper.specs.Limits.{max-succs, max-operands}
-use Rattle.paper.specs.Refusals.{step-record, Read, next, _>>=_, numbers-of, operands-of, counted-operands-of, change-of, any, ascending, operand-beyond}
+use Rattle.paper.specs.Refusals.{step-record, Read, _>>=_, numbers-of, operands-of, counted-operands-of, change-of, any, ascending, operand-beyond}
 use Rattle.fields.specs.Fields.{line-end, fields-behind}
 use Rattle.lists.specs.Bits.{set-bits}
 use Rattle.records.specs.declared.Counts.{Counts}
@@ -26,7 +26,7 @@ abbrev pub counted : Counts → Sheet
 counted counts =
     record { regs = counts .regs; slots = counts .slots; vregs = counts .vregs; blocks = counts .blocks; entry = 0; typed = []; body = [] }
 
--- ---- lists of numbers
+-- lists of numbers
 
 -- the numbers of the fields, where there are at most 8
 unfoldable pub few-numbers : List Bytes → Option (List ℕ)
@@ -41,7 +41,7 @@ pub record NumbersRead (s : Bytes) (at count : ℕ) (values : List ℕ) (after :
   pub room : length values ≡ max-succs
   pub ends : count ≤ max-succs → Ends s at after
 
--- ---- operands
+-- operands
 
 abbrev pub operand-of-codes : ℕ → ℕ → Operand
 operand-of-codes n r = record { name = name-of-code n; reg = register-of-code r }
@@ -97,7 +97,7 @@ unfoldable pub below : ℕ → List ℕ → List ℕ
 below limit [] = []
 below limit (c ∷ cs) = cond (ltb c limit) (c ∷ below limit cs) (below limit cs)
 
--- ---- packed words
+-- packed words
 
 unfoldable pub name-word : ℕ → ℕ
 name-word c = cond (ltb c 100000) c (c - 100000 + 256)
@@ -121,7 +121,7 @@ pub record Small (n r : ℕ) : Type 0 where
   pub virtual-small : n < 100000 → n < 256
   pub register-small : register-word r < 64
 
--- ---- slots
+-- slots
 
 -- the least number that keeps the list ascending
 unfoldable pub least-behind : ℕ → List ℕ → ℕ

@@ -19,7 +19,7 @@ use Rattle.cells.specs.Packed.{name-of-word, marked}
 use Rattle.steps.specs.Actions.{no-register}
 use Rattle.records.specs.declared.Counts.{Counts}
 
--- ---- what a line breaks
+-- what a line breaks
 
 -- the lowest number of what holds: 5, 6, 7, 8, or 0 where nothing does
 unfoldable pub lowest : (beyond disorder elsewhere differ : Bool) → ℕ
@@ -30,7 +30,7 @@ unfoldable pub verdict : Sheet → Option Record → ℕ
 verdict S none = 3
 verdict S (some r) = lowest (beyond-limit S r) (out-of-order S r) (real-elsewhere r) (types-differ S r)
 
--- ---- places
+-- places
 
 -- a place of a sheet where a field ends, by a tab or by a line feed; the sheet's last byte is a line feed
 pub record Behind (s : Bytes) (at : ℕ) : Type 0 where
@@ -45,7 +45,7 @@ pub record Ends (s : Bytes) (at next : ℕ) : Type 0 where
   pub inside : next < length s
   pub feed : getD s next 0 ≡ line-feed
 
--- ---- the next field of the line
+-- the next field of the line
 
 -- the field behind `at` says `value`, and the line goes on behind it, at `after`
 pub record Next {A : Type 0} (read : Bytes → Option A) (s : Bytes) (at : ℕ) (value : A) (after : ℕ) : Type 0 where
@@ -74,7 +74,7 @@ abbrev pub AllocationBehind : Bytes → ℕ → Number.Number → Type 0
 AllocationBehind s at number.Bad = next allocation-of (fields-behind s at) ≡ none
 AllocationBehind s at (number.Value c after) = Next allocation-of s at (register-of-code c) after × (c ≤ 100000)
 
--- ---- what a line is held against
+-- what a line is held against
 
 pub record CountsWithin (counts : Counts) : Type 0 where
   pub regs : counts .regs ≤ max-regs
@@ -104,7 +104,7 @@ pub record Paired (S : Sheet) (step : ℕ → ℕ → Step) (first second : ℕ)
   pub home : (a b : ℕ) → real-elsewhere (step-record (step a b)) ≡ false
   pub types : (a b : ℕ) → types-differ S (step-record (step a b)) ≡ false
 
--- ---- what is told of a line
+-- what is told of a line
 
 -- `number` is the line's verdict; a well-formed line ends at `after`; a line that breaks nothing says `r`
 pub record Told (S : Sheet) (s : Bytes) (at : ℕ) (read : Option Record) (number after : ℕ) (r : Record) : Type 0 where

@@ -29,7 +29,7 @@ use layout::OPERAND_WORDS;
 // A name and an allocation are read into one number each: from here on a real name, and no register.
 const REAL: u32 = 100000;
 
-const NO_REGISTER: u32 = 100000;
+const NO_ALLOCATION: u32 = 100000;
 // One more than the largest number of a name.
 const NAMES: u32 = 200000;
 
@@ -163,7 +163,7 @@ pub struct Slots {
 }
 
 // The next field of the line, as a number.
-pub fn number_behind(s: &[u8], at: usize) -> Number
+fn number_behind(s: &[u8], at: usize) -> Number
     requires { ⌜ Behind (now s) at ⌝ }
     ensures { λ r. ⌜ NumberBehind (now (s .entry)) at r ⌝ }
 {
@@ -174,7 +174,7 @@ pub fn number_behind(s: &[u8], at: usize) -> Number
 }
 
 // The next field as a name in one number: that of a virtual name, and 100,000 more for a real one.
-pub fn name_behind(s: &[u8], at: usize) -> Number
+fn name_behind(s: &[u8], at: usize) -> Number
     requires { ⌜ Behind (now s) at ⌝ }
     ensures { λ r. ⌜ NameBehind (now (s .entry)) at r ⌝ }
 {
@@ -192,7 +192,7 @@ pub fn name_behind(s: &[u8], at: usize) -> Number
 }
 
 // The next field as an allocation in one number: the register's, or 100,000 for none.
-pub fn allocation_behind(s: &[u8], at: usize) -> Number
+fn allocation_behind(s: &[u8], at: usize) -> Number
     requires { ⌜ Behind (now s) at ⌝ }
     ensures { λ r. ⌜ AllocationBehind (now (s .entry)) at r ⌝ }
 {
@@ -205,7 +205,7 @@ pub fn allocation_behind(s: &[u8], at: usize) -> Number
     if given {
         Number::Value(r, next)
     } else {
-        Number::Value(NO_REGISTER, next)
+        Number::Value(NO_ALLOCATION, next)
     }
 }
 
@@ -594,7 +594,7 @@ fn group_beyond(g: Operands, counts: Counts) -> bool
 fn operand_beyond(name: u32, register: u32, counts: Counts) -> bool
     ensures { λ r. ⌜ r ≡ operand-beyond (counted counts) (operand-of-codes name register) ⌝ }
 {
-    name_beyond(name, counts) | ((register < NO_REGISTER) & (counts.regs <= register))
+    name_beyond(name, counts) | ((register < NO_ALLOCATION) & (counts.regs <= register))
 }
 
 // Is the code one of those from `from` on, up to `count`?
@@ -652,7 +652,7 @@ fn is_elsewhere(name: u32, register: u32) -> bool
     if name < REAL {
         return false;
     }
-    if register < NO_REGISTER {
+    if register < NO_ALLOCATION {
         register != name - REAL
     } else {
         true
@@ -672,7 +672,7 @@ fn judge_operation(inst: u32, uses: Operands, defs: Operands, counts: Counts) ->
     let defined = defs.names;
     let registers = defs.registers;
     let disorder = repeated(used, uses.count, NAMES)
-        | (repeated(defined, defs.count, NAMES) | repeated(registers, defs.count, NO_REGISTER));
+        | (repeated(defined, defs.count, NAMES) | repeated(registers, defs.count, NO_ALLOCATION));
     let elsewhere = any_elsewhere(uses) | any_elsewhere(defs);
     lowest(beyond, disorder, elsewhere, false)
 }
@@ -681,7 +681,7 @@ fn register_word(register: u32) -> u16
     requires { ⌜ register-word register < 64 ⌝ }
     ensures { λ r. ⌜ r ≡ register-word register ⌝ }
 {
-    if register < NO_REGISTER {
+    if register < NO_ALLOCATION {
         register as u16
     } else {
         63

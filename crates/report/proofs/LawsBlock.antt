@@ -93,7 +93,7 @@ so-far-more {pass} {rule} {words} {block} {place} a o inst ea eo ei eu s n =
       noted = rw (steps-more words first place, faults-more rule S block x 0 xs, z, ← s .state, ← ea, ← ei, ← eo) (noted-then (s .noted) n);
     }
 
--- ---- block after block
+-- block after block
 
 pub count-next : (words : List ℕ) (block : ℕ) → count-from words 0 (block + 1) ≡ count-from words 0 block + step-total words block
 count-next words block = let z : 0 + block ≡ block = omega arith in rw add-one (rw z at (count-more words 0 block))

@@ -18,7 +18,7 @@ use Rattle.steps.specs.Same.{length-steps}
 use Rattle.sheet.specs.Loaded.{first-step, step-total, block-at, blocks-at}
 use Rattle.report.specs.Passes.{fault-lines}
 
--- ---- a step more
+-- a step more
 
 module _ (rule : Rule) (ref : Name → Bool) (x : Step) where
   pub effects-more : (xs : List Step) (s : State) → effects rule ref (xs ++ (x ∷ [])) s ≡ effect rule ref x (effects rule ref xs s)
@@ -41,7 +41,7 @@ module _ (rule : Rule) (S : Sheet) (b : ℕ) (x : Step) where
       let e : suc place + length xs ≡ place + suc (length xs) = omega arith in
       rw append-assoc (ap (λ t. line-of b place y (check y s) ++ t) (rw e at (faults-more (suc place) xs (effect rule (reference-typed S) y s))))
 
--- ---- a block more
+-- a block more
 
 by-block-suc : (f : ℕ → List Line) (b n : ℕ) → by-block f b (suc n) ≡ by-block f b n ++ f (b + n)
 unfolding by-block
@@ -53,7 +53,7 @@ by-block-suc f b (suc n) =
 pub by-block-more : (f : ℕ → List Line) (n : ℕ) → by-block f 0 (n + 1) ≡ by-block f 0 n ++ f n
 by-block-more f n = let e : 0 + n ≡ n = omega arith in rw add-one (rw e at (by-block-suc f 0 n))
 
--- ---- how many steps
+-- how many steps
 
 one-block : (words : List ℕ) (b : ℕ) → length ((block-at words b) .steps) ≡ step-total words b
 unfolding block-at

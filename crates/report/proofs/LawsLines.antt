@@ -1,4 +1,5 @@
--- How long a header and a line are, part by part, and that a line has at most 32 bytes.
+-- How long a header and a line are, part by part, and that a line has at most 32 bytes; then what an error's fields stand for: the
+-- line of the fault that the error is.
 use mathlib.Core.Path.{_≡_, refl, ap₂}
 use mathlib.Core.List.{List, [], _∷_}
 use mathlib.Core.Option.{Option, some}
@@ -22,7 +23,7 @@ use Rattle.report.specs.Lines.{field-text, field-texts, fields-line, hea
 use Rattle.report.specs.declared.Field.the-variants.{Nothing, Register, Named}
 use Rattle.report.specs.declared.FaultFields.{FaultFields}
 
--- ---- how long a text is, by its fields
+-- how long a text is, by its fields
 
 behind : (f : Bytes) (fs : List Bytes) → length (behind-tabs (f ∷ fs)) ≡ 1 + length f + length (behind-tabs fs)
 unfolding behind-tabs
@@ -57,7 +58,7 @@ pub header-room : (rule : Rule) (count at n : ℕ) → at + length (header-text 
 unfolding header-text
 header-room rule count at n h = omega (arith, behind (rule-text rule) (digits count ∷ []), behind (digits count) [], behind-none)
 
--- ---- how long it can get
+-- how long it can get
 
 digit-none : (unit n : ℕ) → n < unit → length (digit-from unit n) ≡ 0
 unfolding digit-from
@@ -136,7 +137,7 @@ line-short block place inst kind x y z hb hp hk hx hy hz =
       one-digit kind hk,
     )
 
--- ---- what an error's fields stand for
+-- what an error's fields stand for
 
 register-small : (r : ℕ) → r < 32 → register-of r ≡ some r
 unfolding register-of

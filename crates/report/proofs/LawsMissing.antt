@@ -17,7 +17,7 @@ use Rattle.report.specs.Missing.{names-lines, step-lines, missing-lines,
 use Rattle.report.specs.declared.Missing.{Missing}
 use Rattle.report.specs.declared.Missing.the-variants.{Nothing, Found}
 
--- ---- the first list that has something in it
+-- the first list that has something in it
 
 first-of-some : {A : Type 0} (xs ys : List A) → some-in xs ≡ true → first-list xs ys ≡ xs
 unfolding first-list some-in
@@ -34,7 +34,7 @@ unfolding some-in
 some-mapped f [] = refl
 some-mapped f (x ∷ xs) = refl
 
--- ---- the search
+-- the search
 
 steps-cons : (words : List ℕ) (first i n : ℕ) → i < n
     → steps-at words (first + i) (n - i) ≡ step-of words (action-at words (first + i)) ∷ steps-at words (first + (i + 1)) (n - (i + 1))
@@ -98,7 +98,7 @@ unfolding is-found missing-lines
 no-lines-found words ls Nothing m e = m .lines
 no-lines-found words ls (Found block place k) m e = absurd (true≢false e)
 
--- ---- the step that was found
+-- the step that was found
 
 pub faults-missing : (rule : Rule) (words : List ℕ) (block place k : ℕ) → MissingOf words (Found block place k)
     → faults rule (sheet-of words) ≡ step-lines block place (step-of words (action-at words k))

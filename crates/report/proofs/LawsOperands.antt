@@ -16,7 +16,6 @@ use Rattle.steps.specs.Actions.{no-register, register-of, operand-of, operands}
 use Rattle.report.specs.Lines.{fields-line}
 use Rattle.report.specs.Missing.{names-lines}
 use Rattle.report.specs.declared.Field.the-variants as field
-use Rattle.report.specs.declared.Missing.the-variants.{Nothing}
 use Rattle.report.proofs.LawsLines.{missing-text}
 use Rattle.report.proofs.LawsPasses.{lines-append, one-line}
 
@@ -32,11 +31,11 @@ unallocated-append [] ys = refl
 unallocated-append (u ∷ xs) ys = one-append u xs ys (u .reg) refl (unallocated-append xs ys)
 
 module _ (w : ℕ) where
-  pub one-missing : w / 1024 ≡ no-register → unallocated (operand-of w ∷ []) ≡ name-of-word w ∷ []
+  one-missing : w / 1024 ≡ no-register → unallocated (operand-of w ∷ []) ≡ name-of-word w ∷ []
   unfolding operand-of register-of unallocated
   one-missing e = rw (eq-eqb _ _ e)
 
-  pub none-missing : (w / 1024 ≡ no-register → ⊥) → unallocated (operand-of w ∷ []) ≡ []
+  none-missing : (w / 1024 ≡ no-register → ⊥) → unallocated (operand-of w ∷ []) ≡ []
   unfolding operand-of register-of unallocated
   none-missing e = rw (ne-eqb _ _ e)
 

@@ -24,7 +24,7 @@ pub one-line : (l : Line) → lines-text (l ∷ []) ≡ line-text l
 unfolding lines-text
 one-line l = append-nil (line-text l)
 
-pub wrote-noted : {ls : List Line} {l l′ : List ℕ} {i j : ℕ} → Wrote l i (lines-text ls) l′ j → Noted Write ls l i l′ j
+wrote-noted : {ls : List Line} {l l′ : List ℕ} {i j : ℕ} → Wrote l i (lines-text ls) l′ j → Noted Write ls l i l′ j
 unfolding noted-list noted-size
 wrote-noted w = record { list = w .list; next = w .next }
 
@@ -37,15 +37,12 @@ unfolding noted-list noted-size lines-text
 noted-none Count l i = record { list = refl; next = omega arith }
 noted-none Write l i = record { list = refl; next = omega arith }
 
-both-noted : (pass : Pass) {xs ys : List Line} {l l₁ l₂ : List ℕ} {i j k : ℕ} → Noted pass xs l i l₁ j → Noted pass ys l₁ j l₂ k → Noted pass (xs ++ ys) l i l₂ k
-unfolding noted-list noted-size
-both-noted Count p q = record { list = q .list ∙ p .list; next = rw length-append (omega arith) }
-both-noted Write p q = wrote-noted (rw lines-append (then (noted-wrote p) (noted-wrote q)))
-
 pub noted-then : {pass : Pass} {xs ys : List Line} {l l₁ l₂ : List ℕ} {i j k : ℕ} → Noted pass xs l i l₁ j → Noted pass ys l₁ j l₂ k → Noted pass (xs ++ ys) l i l₂ k
-noted-then {pass} p q = both-noted pass p q
+unfolding noted-list noted-size
+noted-then {pass = Count} p q = record { list = q .list ∙ p .list; next = rw length-append (omega arith) }
+noted-then {pass = Write} p q = wrote-noted (rw lines-append (then (noted-wrote p) (noted-wrote q)))
 
--- ---- one step
+-- one step
 
 some-kind : (fault : Fault) → kind-of fault ≡ 0 → ⊥
 unfolding kind-of

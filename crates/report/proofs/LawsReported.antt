@@ -64,7 +64,7 @@ reported-accepted {rule} {ls} {l} {l₁} {j} p n small fits =
       fits = omega (arith, w .next);
     }
 
--- ---- what is reported
+-- what is reported
 
 counted : {ls : List Line} {l l₁ : List ℕ} {count : ℕ} → Noted Count ls l 0 l₁ count → count ≡ length ls
 unfolding noted-size

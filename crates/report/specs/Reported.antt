@@ -1,7 +1,7 @@
 -- What the report's functions ask of the words, and what they promise: the answer, and the text at the start of the report.
 use mathlib.Core.Path.{_≡_, _∙_}
 use mathlib.Core.List.{List, [], _∷_}
-use Prim.Native.Nat.{ℕ, _+_, _*_, _≤_, _<_}
+use Prim.Native.Nat.{ℕ, _+_, _≤_, _<_}
 use native.Mathlib.Omega.{arith}
 use lib.ListN.{length, getD}
 use lib.Seq.{sets-eq}
@@ -14,7 +14,7 @@ use Rattle.paper.specs.Answer.{laid}
 use Rattle.paper.specs.declared.Rule.{Rule}
 use Rattle.paper.specs.declared.Answer.{Answer}
 use Rattle.paper.specs.declared.Answer.the-variants.{Accepted, Faulty}
-use Rattle.layout.specs.Layout.{regs-word, slots-word, blocks-word, state-base, state-words}
+use Rattle.layout.specs.Layout.{regs-word, slots-word, blocks-word, state-at}
 use Rattle.cells.specs.States.{stored-state}
 use Rattle.sheet.specs.Loaded.{sheet-of, Loaded}
 
@@ -24,7 +24,7 @@ pub record Checkable (rule : Rule) (words : List ℕ) : Type 0 where
   pub few : step-count ((sheet-of words) .body) ≤ max-steps
   pub allocated : missing-allocations (sheet-of words) ≡ []
   pub states : (b : ℕ) → b < getD words blocks-word 0
-      → stored-state (getD words regs-word 0 ∷ getD words slots-word 0 ∷ []) (state-base + b * state-words) words ≡ checked-from rule (sheet-of words) b
+      → stored-state (getD words regs-word 0 ∷ getD words slots-word 0 ∷ []) (state-at b) words ≡ checked-from rule (sheet-of words) b
 
 unfoldable pub answered : Rule → List Line → Answer
 answered rule [] = Accepted (length (report-text rule []))

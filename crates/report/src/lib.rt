@@ -109,7 +109,7 @@ fn write_fields(report: &mut [u8], at: usize, fault: FaultFields) -> usize
 }
 
 // An `E` line.
-pub fn write_line(
+fn write_line(
     report: &mut [u8],
     at: usize,
     block: usize,
@@ -149,7 +149,7 @@ fn write_rule(report: &mut [u8], at: usize, rule: Rule) -> usize
 }
 
 // The header: the rule, and the count of the lines that follow.
-pub fn write_header(report: &mut [u8], at: usize, rule: Rule, count: usize) -> usize
+fn write_header(report: &mut [u8], at: usize, rule: Rule, count: usize) -> usize
     requires { ⌜ (count < 4294967296) × (at + length (header-text rule count) ≤ length (now report)) ⌝ }
     ensures { λ r. ⌜ Wrote (now (report .entry)) at (header-text rule count) (now (report .exit)) r ⌝ }
 {
@@ -172,7 +172,7 @@ fn fault_fields(kind: u32, location: Field, expected: Field, actual: Field) -> F
 }
 
 // The kind and the fields of what a check finds; kind 0 where it finds nothing.
-pub fn fields_of(error: CheckerError) -> FaultFields
+fn fields_of(error: CheckerError) -> FaultFields
     requires { ⌜ ErrorWithin error ⌝ }
     ensures { λ r. ⌜ FieldsOf (fault-of error) r ⌝ }
 {

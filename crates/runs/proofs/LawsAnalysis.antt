@@ -19,7 +19,6 @@ use Rattle.sheet.specs.Loaded.{sheet-of, Loaded}
 use Rattle.runs.specs.Held.{RunKept, held-state}
 use Rattle.runs.specs.Queue.{held, held-from}
 use Rattle.runs.specs.Table.{mark-of, Tabled}
-use Rattle.runs.specs.Seen.{seen-step, seen-begin}
 use Rattle.runs.specs.Allowed.{loaded-closed}
 use Rattle.runs.specs.Stands.{Begins, Running, Continues, Moved, Analysed}
 use Rattle.runs.specs.declared.Ring.{Ring}
@@ -42,7 +41,6 @@ going-begins {rule} {words} {words′ = words′} {queue′ = queue′} {ring = 
     closed = loaded-closed loaded;
     allocated = all;
     standing = standing-begin rule (sheet-of words) (loaded-closed loaded);
-    seen = seen-begin rule (sheet-of words);
     stands = b .stands;
   });
 }
@@ -68,7 +66,6 @@ module _ {rule : Rule} {words₀ queue₀ words queue : List ℕ} {ring : Ring} 
       closed = g .running .closed;
       allocated = g .running .allocated;
       standing = rw (add-one, run-suc (flow rule (sheet-of words₀)) visits (begin rule (sheet-of words₀))) (waits (held queue ring) (length-held queue (ring .head) (ring .count)) (g .running .stands .waiting));
-      seen = rw (add-one, run-suc (flow rule (sheet-of words₀)) visits (begin rule (sheet-of words₀))) (seen-step _ _ (g .running .seen));
       stands = rw (add-one, run-suc (flow rule (sheet-of words₀)) visits (begin rule (sheet-of words₀))) (m .stands _ _ (g .running .stands));
     };
   }

@@ -37,11 +37,11 @@ pub record Filled (rule : Rule) (words₀ words : List ℕ) (b : ℕ) : Type 0 w
 pub filled-none : {rule : Rule} {words : List ℕ} → Filled rule words words 0
 filled-none = record { past = omega arith; kept = kept-same _ _ _; tabled = record { states = λ b h. absurd (omega arith); marks = λ b h. absurd (omega arith) } }
 
-pub sheet-here : {words : List ℕ} → Ready words → Holds (sheet-of words) words
+sheet-here : {words : List ℕ} → Ready words → Holds (sheet-of words) words
 sheet-here r = record { ready = r; is = refl }
 
 module _ {rule : Rule} {words₀ words : List ℕ} {b : ℕ} (ready : Ready words₀) (f : Filled rule words₀ words b) where
-  pub filled-holds : Holds (sheet-of words₀) words
+  filled-holds : Holds (sheet-of words₀) words
   filled-holds = holds-stays (f .kept) (sheet-here ready)
 
   pub filled-more : {words₁ : List ℕ} {s : List (List ℕ)} {regs slots : ℕ} (v : ℕ) → b < getD words₀ blocks-word 0

@@ -24,7 +24,7 @@ round h n l = rw (le-ltb _ _ l)
 by-place : {Q : Type 0} (h n : ℕ) → (h + n < queue-size → place h n ≡ h + n → Q) → (queue-size ≤ h + n → place h n ≡ h + n - queue-size → Q) → Q
 by-place h n f g = by-order (h + n) queue-size (λ l. f l (near h n l)) (λ l. g l (round h n l))
 
-pub place-inside : (h n : ℕ) → h < queue-size → n ≤ queue-size → place h n < queue-size
+place-inside : (h n : ℕ) → h < queue-size → n ≤ queue-size → place h n < queue-size
 place-inside h n hh hn = by-place h n (λ l e. omega arith) (λ l e. omega arith)
 
 place-apart : (h k n : ℕ) → h < queue-size → k < n → n < queue-size → place h k ≡ place h n → ⊥

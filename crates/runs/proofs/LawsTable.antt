@@ -48,7 +48,7 @@ pub record Alone (b : ℕ) (words words′ : List ℕ) : Type 0 where
 
 module _ {words words₁ : List ℕ} (b : ℕ) (h : b < max-blocks) (kept : Kept (state-at b) state-words words words₁) where
   -- its state changes
-  pub alone-state : Alone b words words₁
+  alone-state : Alone b words words₁
   alone-state = record {
     kept = kept-wider _ _ kept (omega arith) (omega arith);
     states = λ k l d i lo hi. by-order k b (λ less. kept .below i (omega arith)) (λ more. kept .above i (omega arith));
@@ -69,7 +69,7 @@ module _ {S : Sheet} {words : List ℕ} (sheet : Holds S words) where
   unfolding sheet-of
   blocks-are = ap (λ (s : Sheet). s .blocks) (sym (sheet .is))
 
-  pub counts-are : counts-of S ≡ getD words regs-word 0 ∷ getD words slots-word 0 ∷ []
+  counts-are : counts-of S ≡ getD words regs-word 0 ∷ getD words slots-word 0 ∷ []
   unfolding sheet-of
   counts-are = ap counts-of (sym (sheet .is))
 
@@ -116,7 +116,7 @@ module _ {S : Sheet} {words words₁ : List ℕ} {s : List (List ℕ)} (sheet : 
   mark-set = getD-set-same words₁ (mark-at b) v 0 (omega (arith, stored .kept .same-length, sheet .ready .room))
 
 -- block b gets the state x and is visited
-pub tables-update : {rule : Rule} {S : Sheet} {words words′ : List ℕ} {table : ℕ → Option State} (b : ℕ) (x : State) → Alone b words words′
+tables-update : {rule : Rule} {S : Sheet} {words words′ : List ℕ} {table : ℕ → Option State} (b : ℕ) (x : State) → Alone b words words′
     → held-state S words′ b ≡ x → getD words′ (mark-at b) 0 ≡ 1 → Tables rule S words table → Tables rule S words′ (update table b x)
 unfolding mark-of entered
 tables-update {rule} {S} {words} {words′} {table} b x alone state mark t = record {

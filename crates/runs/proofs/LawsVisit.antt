@@ -10,16 +10,17 @@ use lib.ListN.{length, getD}
 use Rattle.lists.specs.Region.{region}
 use Rattle.lists.specs.Grown.{region-more, region-joined}
 use Rattle.lists.specs.Kept.{kept-same, kept-then}
-use Rattle.paper.specs.Sheet.{Sheet, succs-of, steps-of, reference-typed}
-use Rattle.paper.specs.Steps.{State, effects}
-use Rattle.paper.specs.Runs.{Run, push, spread, visit-at, step-at, step, flow, visit-bound}
+use Rattle.paper.specs.Sheet.{Sheet, succs-of}
+use Rattle.paper.specs.Steps.{State}
+use Rattle.paper.specs.Runs.{Run, push, spread, step, flow, visit-bound}
 use Rattle.paper.specs.Report.{missing-allocations}
 use Rattle.paper.specs.Limits.{max-blocks, max-succs, queue-size}
 use Rattle.paper.specs.Walks.{In, here}
 use Rattle.paper.specs.declared.Rule.{Rule}
 use Rattle.paper.specs.declared.Rule.the-variants.{Old, House}
 use Rattle.layout.specs.Layout.{blocks-word, opened-word, succ-base, state-base, all-words, mark-at}
-use Rattle.walks.specs.Loop.{standing-room, standing-below, standing-inside}
+use Rattle.walks.specs.Running.{step-visit, spread-last}
+use Rattle.walks.specs.Loop.{standing-room, standing-below, standing-visited, standing-inside}
 use Rattle.cells.specs.States.{state-of}
 use Rattle.sheet.specs.Loaded.{succ-total, sheet-of, BlockBounds}
 use Rattle.sheet.specs.Blocks.{succs-in-words}
@@ -30,12 +31,6 @@ use Rattle.runs.specs.Stands.{Stands, Continues, Moved}
 use Rattle.runs.specs.declared.Ring.{Ring}
 use Rattle.runs.proofs.LawsQueue.{length-held}
 use Rattle.runs.proofs.LawsTable.{marked, blocks-are, few-blocks, narrow, ready-stays}
-
--- one successor more
-spread-more : (rule : Rule) (S : Sheet) (ss : List ℕ) (s : ℕ) (x : State) (r : Run State) → spread (flow rule S) (ss ++ (s ∷ [])) x r ≡ push (flow rule S) s x (spread (flow rule S) ss x r)
-unfolding spread
-spread-more rule S [] s x r = refl
-spread-more rule S (c ∷ ss) s x r = spread-more rule S ss s x (push (flow rule S) c x r)
 
 -- inside a visit, whose block has its successors from `from` on: the first i have been served
 pub record Serving (rule : Rule) (words₀ queue₀ : List ℕ) (ring₀ : Ring) (s : List (List ℕ)) (from total : ℕ) (words queue : List ℕ) (ring : Ring) (i : ℕ) : Type 0 where
@@ -56,7 +51,7 @@ serving-more {rule} {words₀} {s = s} {from = from} {i = i} g l low fits m = re
     kept = kept-then _ _ (g .moved .kept) (m .kept) (omega arith) (omega arith) (omega arith) (omega arith);
     same-length = m .same-length ∙ g .moved .same-length;
     stands = λ S r h.
-        rw (region-more from i words₀ (omega arith), spread-more rule S (region from i words₀) (getD words₀ (from + i) 0) (state-of (counts-of S) s) r, ← g .moved .kept .below (from + i) (omega arith))
+        rw (region-more from i words₀ (omega arith), spread-last (flow rule S) (region from i words₀) (getD words₀ (from + i) 0) (state-of (counts-of S) s) r, ← g .moved .kept .below (from + i) (omega arith))
         (m .stands S _ (g .moved .stands S r h));
   };
 }
@@ -72,12 +67,6 @@ bound-fits House {S} h =
     let e : S .blocks * (1 + 3 * (S .regs + S .slots)) ≤ max-blocks * (1 + 3 * (S .regs + S .slots)) = mul-le-mul-right _ (few-blocks h) in
     let n = narrow h in
     omega (arith, n .0, n .1 .0)
-
--- a step, where the first block that waits and its state are known
-step-is : (rule : Rule) (S : Sheet) (r : Run State) (b : ℕ) (queue : List ℕ) (a : State) → r .queue ≡ b ∷ queue → r .table b ≡ some a
-    → step (flow rule S) r ≡ spread (flow rule S) (succs-of S b) (effects rule (reference-typed S) (steps-of S b) a) (record { table = r .table; queue = queue })
-unfolding step step-at visit-at flow
-step-is rule S r b queue a e f = rw (e, f)
 
 -- where the visited block's numbers stand, and how many successors it has
 pub record Visiting (words : List ℕ) (b : ℕ) : Type 0 where
@@ -106,8 +95,8 @@ module _ {rule : Rule} {words queue : List ℕ} {ring ring₁ : Ring} (c : Conti
   first-marked : getD words (mark-at (first-of queue ring)) 0 ≡ 0 → ⊥
   unfolding mark-of
   first-marked e =
-      let v = c .running .seen .each (first-of queue ring) first-in in
-      let m : _≡_ {A = ℕ} 0 1 = sym e ∙ c .running .stands .tables .tabled .marks (first-of queue ring) first-here ∙ ap mark-of (v .holds) in
+      let v = standing-visited rule _ _ (c .running .standing) (first-of queue ring) first-in in
+      let m : _≡_ {A = ℕ} 0 1 = sym e ∙ c .running .stands .tables .tabled .marks (first-of queue ring) first-here ∙ ap mark-of (v .1) in
       omega arith
 
   pub still-allocated : missing-allocations (sheet-of words) ≡ []
@@ -167,10 +156,11 @@ module _ {rule : Rule} {words queue : List ℕ} {ring ring₁ : Ring} (c : Conti
 
     -- all are served: that was the visit
     pub moved-visit : succ-total words (getD queue (ring .head) 0) ≤ i → Moved rule words queue ring words′ queue′ ring′ (λ S. step (flow rule S))
+    unfolding flow
     moved-visit l = record { kept = g .moved .kept; same-length = g .moved .same-length; stands = stands }
       where
         stands : (S : Sheet) (r : Run State) → Stands rule S words queue ring r → Stands rule S words′ queue′ ring′ (step (flow rule S) r)
         stands S r h =
             let all : i ≡ succ-total words (first-of queue ring) = omega (arith, g .past) in
-            rw (step-is rule S r (first-of queue ring) (held queue ring₁) _ (sym (h .waiting) ∙ taken .holds) (first-state S r h), ← through .is S (h .tables .sheet), first-succs S (h .tables .sheet), ← all)
+            rw (step-visit (flow rule S) r (first-of queue ring) (held queue ring₁) _ (sym (h .waiting) ∙ taken .holds) (first-state S r h), ← through .is S (h .tables .sheet), first-succs S (h .tables .sheet), ← all)
             (g .moved .stands S _ (rest-stands S r h))

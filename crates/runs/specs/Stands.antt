@@ -19,7 +19,6 @@ use Rattle.runs.specs.Held.{RunKept, held-state}
 use Rattle.runs.specs.Queue.{held, Sound}
 use Rattle.runs.specs.Table.{mark-of, Tables}
 use Rattle.runs.specs.Sheets.{sheet-stays, loaded-stays}
-use Rattle.runs.specs.Seen.{Seen}
 use Rattle.runs.specs.declared.Ring.{Ring}
 
 -- the sheet S and the run r stand in words and queue
@@ -39,7 +38,6 @@ pub record Running (rule : Rule) (S : Sheet) (words queue : List ℕ) (ring : Ri
   pub closed : Closed S
   pub allocated : missing-allocations S ≡ []
   pub standing : Standing rule S closed visits r
-  pub seen : Seen r
   pub stands : Stands rule S words queue ring r
 
 -- some run is on its way

@@ -35,11 +35,11 @@ with-body l body = record {
   body = body;
 }
 
--- ---- what stays
+-- what stays
 
 module _ {l m : List ℕ} (begun : Begun l) (head : SameHead l m) (steps : SameSteps l m (getD l steps-word 0)) where
   -- a word of the header that neither `B` nor a step changes
-  pub same-word : (i : ℕ) → i < opened-word → getD m i 0 ≡ getD l i 0
+  same-word : (i : ℕ) → i < opened-word → getD m i 0 ≡ getD l i 0
   same-word i h = head .words i (omega arith) (λ e. omega arith) (λ e. omega arith)
 
   -- the bounds, where the counts of blocks and steps keep theirs
@@ -81,7 +81,7 @@ module _ {l m : List ℕ} (begun : Begun l) (head : SameHead l m) (steps : SameS
         same-typed head (begun .bounds .size) (steps .operands .same-length),
       )
 
--- ---- `B`
+-- `B`
 
 -- the words of one block more
 pub record BlockWritten (l m : List ℕ) (count : ℕ) (succs : List ℕ) : Type 0 where
@@ -230,7 +230,7 @@ block-written l m count succs size small few e = rw e (record {
         getD-over-above (at + 3) count (λ k x. getD succs k 0) three i 0 (omega arith)
         ∙ three-same i (λ q. omega arith) (λ q. omega arith) (λ q. omega arith)
 
--- ---- a step
+-- a step
 
 -- the words of one step more: k is its place, b the last block
 pub record StepWritten (l m : List ℕ) (b : ℕ) (action : Action) : Type 0 where

@@ -16,7 +16,7 @@ use Rattle.sheet.specs.Loaded.{blocks-at, marked-from, sheet-of, Bounds}
 use Rattle.sheet.specs.Reading.{Blank, Begun, Stored}
 use Rattle.sheet.proofs.LawsTyped.{marks-more, ascending-more, ascending-one}
 
--- ---- `F`
+-- `F`
 
 -- words that are all 0 mark nothing
 none-marked : (k : ℕ) (l : List ℕ) → ((i : ℕ) → i < length l → getD l i 0 ≡ 0) → marked-from k l ≡ []
@@ -79,7 +79,7 @@ module _ (l : List ℕ) (blank : Blank l) (regs slots vregs blocks entry : ℕ) 
       let q : m ≡ headed = e ∙ sets-eq (regs ∷ slots ∷ vregs ∷ blocks ∷ entry ∷ 0 ∷ 0 ∷ 0 ∷ 1 ∷ []) l 0 (omega (arith, blank .size)) in
       rw q (record { same-length = headed-length; meaning = headed-meaning; progress = headed-begun })
 
--- ---- `T`
+-- `T`
 
 -- a word of a region, stored
 region-set : (at n : ℕ) (l : List ℕ) (i v : ℕ) → i < n → region at n (set l (at + i) v) ≡ set (region at n l) i v

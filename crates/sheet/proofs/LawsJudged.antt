@@ -14,13 +14,12 @@ use Rattle.paper.specs.Text.{Bytes, number-of, name-of}
 use Rattle.paper.specs.Sheet.{Sheet, Step, safepoint}
 use Rattle.paper.specs.Limits.{max-succs}
 use Rattle.paper.specs.Refusals.{Record, function-record, typed-record, block-record, step-record, _>>=_, next, ended, numbers-of, function-of, typed-of, block-of, two-numbers-of, change-of, counted-operands-of, operation-of, safepoint-of, out-of-place, beyond-limit, out-of-order, real-elsewhere, types-differ, step-too-many, so-far-of, first-holding, conditions, add-record, good, bad, judged, read-record}
-use Rattle.paper.specs.Refusals as paper
 use Rattle.records.specs.Records.{lowest, verdict, Told}
 use Rattle.sheet.specs.Loaded.{sheet-of, so-far}
 use Rattle.sheet.specs.Reading.{lowest-of, lined-of, Alike, Stored, LineRead, begun}
 use Rattle.sheet.specs.declared.Lined.the-variants as lined
 
--- ---- numbers
+-- numbers
 
 lowest-most : (a b c d : Bool) → lowest a b c d ≤ 8
 unfolding lowest
@@ -69,7 +68,7 @@ by-number so x =
     (step-too-many (so-far-of so) x))
 
 module _ (so : Option Sheet) (S : Sheet) (e : so-far-of so ≡ S) (r : Record) where
-  pub refused-line : (read : Option Record) → Alike read r → (lowest-of (verdict S read) (out-of-place so r) (step-too-many S r) ≡ 0 → ⊥)
+  refused-line : (read : Option Record) → Alike read r → (lowest-of (verdict S read) (out-of-place so r) (step-too-many S r) ≡ 0 → ⊥)
       → read-record so read ≡ bad (lowest-of (verdict S read) (out-of-place so r) (step-too-many S r))
   unfolding read-record verdict lowest-of
   refused-line none alike d = refl
@@ -77,7 +76,7 @@ module _ (so : Option Sheet) (S : Sheet) (e : so-far-of so ≡ S) (r : Record) w
       rw (← e) (rw (← alike .place so x refl, ← alike .many (so-far-of so) x refl)
       (by-number so x ∙ judged-option so x _ (rw (alike .place so x refl, alike .many (so-far-of so) x refl, e) d)))
 
-  pub accepted-line : lowest-of (verdict S (some r)) (out-of-place so r) (step-too-many S r) ≡ 0 → read-record so (some r) ≡ good (add-record S r)
+  accepted-line : lowest-of (verdict S (some r)) (out-of-place so r) (step-too-many S r) ≡ 0 → read-record so (some r) ≡ good (add-record S r)
   unfolding judged option-of
   accepted-line d =
       let q : lowest-of (verdict (so-far-of so) (some r)) (out-of-place so r) (step-too-many (so-far-of so) r) ≡ 0 = rw e d in
@@ -98,7 +97,7 @@ lowest-zero number p m e =
         λ q. absurd (eqb-false number 0 q (rw q at e))
     go false false e = by-test (eqb number 0) (λ q. (eqb-true number 0 q, refl, refl)) λ q. absurd (eqb-false number 0 q (rw q at e))
 
--- ---- kinds of records
+-- kinds of records
 
 bind-some : {A B : Type 0} (P : Type 0) (o : Option A) (f : A → Option B) (x : B) → (o >>= f) ≡ some x → ((a : A) → f a ≡ some x → P) → P
 bind-some P none f x e go = absurd (let z : _≡_ {A = ℕ} 0 1 = cc in omega arith)
@@ -211,7 +210,7 @@ module _ (fs : List Bytes) where
       bind-some P (numbers-of (r₁ .rest)) _ x q₁ λ ns q₂.
       same-step x s (safepoint (r₁ .value) ns) (cc)
 
--- ---- a line
+-- a line
 
 module _ {S : Sheet} {s : Bytes} {at : ℕ} {read : Option Record} {number after : ℕ} {r : Record} (told : Told S s at read number after r) (alike : Alike read r)
     (l : List ℕ) (same : so-far-of (so-far l) ≡ S) (p m : Bool) (place : out-of-place (so-far l) r ≡ p) (many : step-too-many S r ≡ m) where

@@ -50,7 +50,7 @@ module _ (s : Bytes) (at : ℕ) (text : SheetText s) (inside : at < length s) wh
 
   -- the letter, as a number, and its reader
   module _ (letter : ℕ) (e : one-byte (field-at s at) ≡ letter) where
-    pub by-its-letter : record-of (fields (line-at s at)) ≡ by-letter letter (fields-behind s (field-end s at))
+    by-its-letter : record-of (fields (line-at s at)) ≡ by-letter letter (fields-behind s (field-end s at))
     unfolding record-of
     by-its-letter = rw (fields-at s at, e)
 

@@ -88,7 +88,7 @@ module _ (row l m : List ℕ) (e : m ≡ over (operands-place l) operand-words (
   sheet-kept (reading.blank p) = sheet-blank m (blank-after p) ∙ sym (sheet-blank l p)
   sheet-kept (reading.begun p) = sheet-still p
 
-  pub so-far-kept : Progress l → so-far m ≡ so-far l
+  so-far-kept : Progress l → so-far m ≡ so-far l
   so-far-kept (reading.blank p) = so-far-blank m (blank-after p) ∙ sym (so-far-blank l p)
   so-far-kept (reading.begun p) = so-far-begun m (begun-still p) ∙ ap (λ (S : Sheet). some S) (sheet-still p) ∙ sym (so-far-begun l p)
 

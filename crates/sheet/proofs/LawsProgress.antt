@@ -22,7 +22,7 @@ use Rattle.sheet.proofs.LawsTyped.{listed-marked, ascending-one}
 use Rattle.sheet.proofs.LawsHeader.{none-typed}
 use Rattle.sheet.specs.Blocks.{length-blocks}
 
--- ---- the sheet so far
+-- the sheet so far
 
 pub so-far-blank : (l : List ℕ) → Blank l → so-far l ≡ none
 unfolding so-far
@@ -67,7 +67,7 @@ pub begun-by-room : (l : List ℕ) → Progress l → getD l opened-word 0 < get
 begun-by-room l (reading.blank p) h = absurd (omega (arith, p .zeros blocks-word (omega arith)))
 begun-by-room l (reading.begun p) h = p
 
--- ---- the place of a line
+-- the place of a line
 
 empty-blocks : (l : List ℕ) (n : ℕ) → empty (blocks-at l 0 n) ≡ eqb n 0
 unfolding empty blocks-at
@@ -100,7 +100,7 @@ module _ (l : List ℕ) where
   steps-many (reading.blank p) x = rw (p .zeros opened-word (omega arith), p .zeros steps-word (omega arith))
   steps-many (reading.begun p) x = rw (p .counted)
 
--- ---- what a line is held against
+-- what a line is held against
 
 module _ (l : List ℕ) where
   pub counted-of : Counted (sheet-of l) (counts-of l)

@@ -7,8 +7,7 @@ use native.Mathlib.Omega.{arith}
 use borrow.Author.Tests.{ltb-false, eqb-true, not-false}
 use lib.Dec.{eqb, ltb}
 use lib.ListN.{length, getD}
-use Rattle.lists.specs.Or.{or-left, or-right}
-use Rattle.lists.specs.Split.{by-order}
+use Rattle.lists.specs.Split.{by-order, or-left, or-right}
 use Rattle.paper.specs.Text.{Bytes, line-feed}
 use Rattle.paper.specs.Limits.{max-sheet}
 use Rattle.paper.specs.Refusals.{empty, one-byte, no-text}

@@ -8,13 +8,13 @@ use native.Mathlib.Numerals.{add-one}
 use native.Mathlib.Omega.{arith}
 use borrow.Author.Tests.{lt-leb, le-leb, eq-eqb, ne-eqb}
 use lib.Dec.{eqb, leb}
-use lib.ListN.{length, getD, set, replicate}
+use lib.ListN.{length, getD, set}
 use Rattle.lists.specs.Split.{by-test, by-order, and-right}
 use Rattle.paper.specs.Sheet.{listed}
 use Rattle.paper.specs.Refusals.{ascending-from, ascending}
 use Rattle.sheet.specs.Loaded.{marked-from}
 
--- ---- what is listed
+-- what is listed
 
 below-first : (k : ℕ) (l : List ℕ) (n : ℕ) → n < k → listed (marked-from k l) n ≡ false
 unfolding marked-from listed
@@ -41,12 +41,7 @@ listed-from k (w ∷ ws) (suc n) =
 pub listed-marked : (l : List ℕ) (n : ℕ) → listed (marked-from 0 l) n ≡ not (eqb (getD l n 0) 0)
 listed-marked l n = rw zero-add at (listed-from 0 l n)
 
-pub none-marked : (n k : ℕ) → marked-from k (replicate n 0) ≡ []
-unfolding marked-from
-none-marked zero k = refl
-none-marked (suc n) k = none-marked n (suc k)
-
--- ---- one name more
+-- one name more
 
 -- nothing in order ends below its least number
 never-below : (least n : ℕ) (xs : List ℕ) → n < least → ascending-from least (xs ++ (n ∷ [])) ≡ false

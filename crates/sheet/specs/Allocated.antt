@@ -1,6 +1,6 @@
 -- A loaded sheet with no allocation missing: each step of each block is in range, and its marks are those of `T`.
-use mathlib.Core.Path.{_≡_, refl, sym}
-use mathlib.Core.List.{List, [], _∷_, map, nil≢cons}
+use mathlib.Core.Path.{_≡_}
+use mathlib.Core.List.{List, [], map-eq-nil-iff}
 use Prim.Native.Nat.{ℕ, zero, suc, _+_, _<_}
 use native.Mathlib.Omega.{arith}
 use lib.ListN.{getD}
@@ -20,14 +20,10 @@ block-none S b (suc i) (suc n) h e =
     let z : suc b + i ≡ b + suc i = omega arith in
     rw z at (block-none S (suc b) i n (omega arith) (both-none _ _ e .1))
 
-mapped-none : {A B : Type 0} (f : A → B) (xs : List A) → map f xs ≡ [] → xs ≡ []
-mapped-none f [] e = refl
-mapped-none f (x ∷ xs) e = absurd (nil≢cons (sym e))
-
 step-none : (words : List ℕ) (b place k i n : ℕ) → i < n → missing-from b place (steps-at words k n) ≡ [] → missing-names (step-of words (action-at words (k + i))) ≡ []
 unfolding missing-from steps-at
 step-none words b place k i zero h e = absurd (omega arith)
-step-none words b place k zero (suc n) h e = let z : k + 0 ≡ k = omega arith in rw z (mapped-none _ _ (both-none _ _ e .0))
+step-none words b place k zero (suc n) h e = let z : k + 0 ≡ k = omega arith in rw z (map-eq-nil-iff _ .0 (both-none _ _ e .0))
 step-none words b place k (suc i) (suc n) h e =
     let z : k + 1 + i ≡ k + suc i = omega arith in
     rw z at (step-none words b (suc place) (k + 1) i n (omega arith) (both-none _ _ e .1))

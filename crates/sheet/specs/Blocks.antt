@@ -16,7 +16,7 @@ use Rattle.sheet.specs.Loaded.{first-step, step-total, succ-total, block
 use Rattle.steps.specs.Laws.{room-within}
 use Rattle.steps.specs.Same.{SameSteps, packs-at, same-action, same-step, same-within, same-honest, steps-alike}
 
--- ---- a run of blocks
+-- a run of blocks
 
 pub length-blocks : (l : List ℕ) (b n : ℕ) → length (blocks-at l b n) ≡ n
 unfolding blocks-at
@@ -65,7 +65,7 @@ pub steps-in-words : (words : List ℕ) (b : ℕ) → b < getD words opened-word
 unfolding sheet-of block-at
 steps-in-words words b h = ap (λ (x : Block). x .steps) (block-from words 0 _ b h ∙ ap (block-at words) (zero-add b))
 
--- ---- one step more
+-- one step more
 
 pub add-step-last : (x : Step) (Bs : List Block) (B : Block)
     → add-step x (Bs ++ (B ∷ [])) ≡ Bs ++ (record { succs = B .succs; steps = B .steps ++ (x ∷ []) } ∷ [])
@@ -79,7 +79,7 @@ unfolding step-count
 step-count-more [] B = omega arith
 step-count-more (A ∷ Bs) B = rw (step-count-more Bs B) (omega arith)
 
--- ---- what a change leaves
+-- what a change leaves
 
 -- the header's words but for how many blocks and steps there are, and the typed names
 pub record SameHead (l m : List ℕ) : Type 0 where
@@ -99,7 +99,7 @@ module _ {l m : List ℕ} (bounds : Bounds l) (head : SameHead l m) (steps : Sam
   same-references (real n) = refl
   same-references (virtual n) = rw (same-typed head (bounds .size) (steps .operands .same-length))
 
-  pub kept-step : (k : ℕ) → k < getD l steps-word 0 → step-of m (action-at m k) ≡ step-of l (action-at l k)
+  kept-step : (k : ℕ) → k < getD l steps-word 0 → step-of m (action-at m k) ≡ step-of l (action-at l k)
   kept-step k h =
       rw (same-action steps k h)
       (same-step (steps .operands) k h (action-at l k) (packs-at l k) (room-within _ _ _ l (action-at l k) (bounds .each-step k h .ranged)))
@@ -119,7 +119,7 @@ module _ {l m : List ℕ} (bounds : Bounds l) (head : SameHead l m) (steps : Sam
       }
 
   module _ (b : ℕ) (h : b < getD l opened-word 0) (same : SameLinks l m b) where
-    pub same-succ-total : succ-total m b ≡ succ-total l b
+    same-succ-total : succ-total m b ≡ succ-total l b
     same-succ-total = same .words succ-total-word (omega arith) (λ e. omega arith)
 
     pub same-first : first-step m b ≡ first-step l b
@@ -151,7 +151,7 @@ module _ {l m : List ℕ} (bounds : Bounds l) (head : SameHead l m) (steps : Sam
         }
 
     module _ (total : step-total m b ≡ step-total l b) where
-      pub kept-block : block-at m b ≡ block-at l b
+      kept-block : block-at m b ≡ block-at l b
       unfolding block-at
       kept-block =
           rw (same-succs, same-first, total, kept-steps (first-step l b) (step-total l b) (bounds .each-block b h .steps))

@@ -30,7 +30,7 @@ pub record SheetText (sheet : Bytes) : Type 0 where
   pub size : length sheet ≤ max-sheet
   pub last : getD sheet (length sheet - 1) 0 ≡ line-feed
 
--- ---- how far reading has come
+-- how far reading has come
 
 -- before the `F`: the words below the blocks are all 0
 pub record Blank (words : List ℕ) : Type 0 where
@@ -65,7 +65,7 @@ pub record Stored (before after : List ℕ) (r : Record) : Type 0 where
   pub meaning : sheet-of after ≡ add-record (sheet-of before) r
   pub progress : Begun after
 
--- ---- one line
+-- one line
 
 -- "in a line the lowest number": that of the line by itself (3, 5, 6, 7, 8, or 0 where it breaks none), with 4 and 9
 unfoldable pub lowest-of : (number : ℕ) (out-of-place too-many : Bool) → ℕ
@@ -104,7 +104,7 @@ abbrev pub number-of-line : Lined.Lined → ℕ
 number-of-line (lined.Good next) = 0
 number-of-line (lined.Bad number) = number
 
--- ---- a sheet
+-- a sheet
 
 unfoldable pub loading-of : Reading → Loading.Loading
 loading-of (loaded S) = loading.Loaded

@@ -28,7 +28,7 @@ use Rattle.runs.specs.Table.{mark-of}
 use Rattle.states.specs.EntryStates.{mark-text, cell-text, cell-texts, visited-text, letter-D, block-text, blocks-text}
 use Rattle.states.specs.Stated.{HoldsStates, tabbed, row-text, head-text}
 
--- ---- fields behind tabs
+-- fields behind tabs
 
 tabbed-append : (xs ys : List Bytes) → tabbed (xs ++ ys) ≡ tabbed xs ++ tabbed ys
 unfolding tabbed
@@ -40,7 +40,7 @@ unfolding tabbed behind-tabs
 behind-tabbed [] = refl
 behind-tabbed (f ∷ fs) = rw (append-assoc, ← behind-tabbed fs)
 
--- ---- a cell
+-- a cell
 
 -- a name, and its mark or none
 module _ (w : ℕ) {l l₁ : List ℕ} {at j : ℕ} (p : Wrote l at (name-text (name-of-word w)) l₁ j) where
@@ -70,7 +70,7 @@ module _ (w : ℕ) {l l₁ l₂ : List ℕ} {at j k : ℕ} (p : Wrote l at (tab 
   unfolding cell-of of-kind
   wrote-name e q = rw e (then p q)
 
--- ---- a row
+-- a row
 
 pub row-none : (from : ℕ) (words l : List ℕ) (at : ℕ) → Wrote l at (row-text from 0 words) l at
 unfolding row-text region tabbed
@@ -90,7 +90,7 @@ pub row-then : {l l₁ l₂ : List ℕ} {at j k : ℕ} (from i : ℕ) (words : L
     → Wrote l₁ j (tab ∷ cell-text (cell-of (getD words (from + i) 0))) l₂ k → Wrote l at (row-text from (i + 1) words) l₂ k
 row-then from i words h p q = rw (row-more from i words h) (then p q)
 
--- ---- the head
+-- the head
 
 pub old-visited : (o : Option State) → (45 ∷ []) ≡ visited-text Old o
 unfolding visited-text
@@ -110,7 +110,7 @@ pub head-spelled : (b visited : ℕ) → head-text b visited ≡ ((letter-D ∷ 
 unfolding head-text tabbed
 head-spelled b visited = refl
 
--- ---- the line
+-- the line
 
 -- the fields of a state are those of its two rows
 state-spelled : (regs slots at : ℕ) (words : List ℕ) → tabbed (cell-texts (stored-state (regs ∷ slots ∷ []) at words)) ≡ row-text at regs words ++ row-text (at + 32) slots words
@@ -139,7 +139,7 @@ module _ {rule : Rule} {words : List ℕ} {b : ℕ} (E : HoldsStates rule words)
       rw (← v _ (E .marks b h), ← E .states b h, line-spelled, state-spelled)
       (then (then p (then q r)) s)
 
--- ---- the lines
+-- the lines
 
 pub blocks-none : (rule : Rule) (S : Sheet) (l : List ℕ) → Wrote l 0 (blocks-text rule S 0 0) l 0
 unfolding blocks-text

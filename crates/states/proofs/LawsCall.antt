@@ -30,7 +30,7 @@ use Rattle.states.specs.EntryStates.{blocks-text, unless-missing, states
 use Rattle.states.specs.Stated.{longest-text, Outcome, outcome, Stated, part-text, Written, HoldsStates}
 use Rattle.states.specs.declared.Part.the-variants.{Answer}
 
--- ---- the text of a sheet
+-- the text of a sheet
 
 -- a sheet that is refused has none
 pub refused-none : {sheet : Bytes} {before after : List ℕ} {r : Loading.Loading} {number line : ℕ} (rule : Rule) → Load sheet before after r
@@ -62,7 +62,7 @@ module _ {sheet : Bytes} {before after : List ℕ} {r : Loading.Loading} (rule :
       let N : MissingOf after (Found block place k) = subst (MissingOf after) f M in
       text-loaded ∙ rw (N .lines) (some-lines block place _ _ _ (N .within .3))
 
--- ---- the words behind the analysis
+-- the words behind the analysis
 
 module _ {rule : Rule} {words queue words′ queue′ : List ℕ} (loads : Loaded words) (a : Analysed rule words queue words′ queue′) where
   same-blocks : getD words′ blocks-word 0 ≡ getD words blocks-word 0
@@ -79,7 +79,7 @@ module _ {rule : Rule} {words queue words′ queue′ : List ℕ} (loads : Loade
   pub same-text : blocks-text rule (sheet-of words′) 0 (getD words′ blocks-word 0) ≡ blocks-text rule (sheet-of words) 0 (getD words blocks-word 0)
   same-text = rw (analysed-sheet loads a, same-blocks)
 
--- ---- what was written
+-- what was written
 
 pub written-none : {text : Bytes} {out words queue words′ : List ℕ} → text ≡ [] → length words′ ≡ length words → Written text out words queue out words′ queue 0
 unfolding laid
@@ -95,7 +95,7 @@ written-text e w h fits same-words same-queue = rw e (record {
   most = h;
 })
 
--- ---- the outcome
+-- the outcome
 
 pub short-outcome : (text : Bytes) (before : Lent) → too-short before ≡ true → Stated text before before 0
 unfolding outcome

@@ -55,7 +55,7 @@ unfoldable pub part-text : Part → Rule → Bytes → Bytes
 part-text Answer rule sheet = written (answer rule sheet)
 part-text States rule sheet = entry-states rule sheet
 
--- ---- the parts
+-- the parts
 
 -- the text was written to the start of a buffer; the scratch keeps its lengths
 pub record Written (text : Bytes) (out words queue out′ words′ queue′ : List ℕ) (r : ℕ) : Type 0 where

@@ -1,3 +1,3 @@
-pub mod PackingLaws
-pub mod CheckLaws
-pub mod EffectLaws
+pub mod LawsPacking
+pub mod LawsChecks
+pub mod LawsEffects

@@ -101,7 +101,7 @@ module _ {l m : List ℕ} {n : ℕ} (same : SameOperands l m n) (k : ℕ) (h : k
     same-honest (Operation inst at uses defs) p q t = λ i h. rw (same-def at (p .0) i (omega arith), e) (t i h)
     same-honest (Safepoint inst mask) p q t = t
 
--- ---- a run of steps
+-- a run of steps
 
 pub length-steps : (l : List ℕ) (k n : ℕ) → length (steps-at l k n) ≡ n
 unfolding steps-at

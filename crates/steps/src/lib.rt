@@ -24,6 +24,7 @@ use cells::State;
 use layout::DEFS_FROM;
 use layout::OPERAND_BASE;
 use layout::OPERAND_WORDS;
+use layout::ROW_WORDS;
 use layout::STEP_BASE;
 use layout::STEP_WORDS;
 use paper::Rule;
@@ -309,7 +310,7 @@ fn is_error(error: CheckerError) -> bool
 }
 
 // The uses in order: the first that fails.
-fn check_uses(words: &[u16], at: usize, n: usize, row: &[u16; 32]) -> CheckerError
+fn check_uses(words: &[u16], at: usize, n: usize, row: &[u16; ROW_WORDS]) -> CheckerError
     requires { ⌜ (at + n ≤ length (now words)) × ((i : ℕ) → i < n → getD (now words) (at + i) 0 / 1024 < max-regs) ⌝ }
     ensures { λ r. ⌜ r ≡ first-error (use-in (now (row .entry))) (region at n (now (words .entry))) ⌝ }
 {
@@ -340,7 +341,7 @@ fn without_lowest(mask: u32) -> u32
 }
 
 // The listed slots, lowest first: the first that fails.
-fn check_stackmap(row: &[u16; 32], mask: u32) -> CheckerError
+fn check_stackmap(row: &[u16; ROW_WORDS], mask: u32) -> CheckerError
     ensures { λ r. ⌜ r ≡ first-error (slot-in (now (row .entry))) (set-bits mask) ⌝ }
 {
     let mut left = mask;

@@ -5,6 +5,7 @@ use mathlib.Core.List.{[], _∷_, map}
 use mathlib.Core.Option.{some}
 use Prim.Native.Nat.{ℕ, suc, zero, _+_, _*_, _≤_, _<_}
 use native.Mathlib.Nat.{mul-suc, mul-add}
+use native.Mathlib.Numerals.{one-add}
 use native.Mathlib.Omega.{arith}
 use lib.ListN.{length, replicate}
 use Rattle.paper.specs.Text.{Name, real, name-same}
@@ -21,7 +22,7 @@ use Rattle.walks.specs.Fits.{shape, Row, Fits, fits-lengths, fits-entry,
 use Rattle.walks.specs.Visits.{Ranked, Within, start, within-unvisited, within-visited}
 
 -- how far a cell can still fall: under the house rule Absent never occurs
-unfoldable pub height : Rule → Cell → ℕ
+unfoldable height : Rule → Cell → ℕ
 height House absent = 0
 height House unknown = 0
 height House conflicted = 1
@@ -37,14 +38,14 @@ unfoldable pub top : Rule → ℕ
 top Old = 4
 top House = 3
 
-abbrev pub Present : Cell → Type 0
+abbrev Present : Cell → Type 0
 Present absent = ⊥
 Present unknown = Unit {0}
 Present conflicted = Unit {0}
 Present (named n m) = Unit {0}
 
 -- the cells that occur under a rule
-abbrev pub Occurs : Rule → Cell → Type 0
+abbrev Occurs : Rule → Cell → Type 0
 Occurs Old c = Unit {0}
 Occurs House c = Present c
 
@@ -190,13 +191,10 @@ ranked rule S C = record {
   succs-in = C .succs-in;
 }
 
-pub suc-is : (n : ℕ) → suc n ≡ 1 + n
-suc-is n = omega arith
-
 pub within-begin : (rule : Rule) (S : Sheet) (C : Closed S) → Within (ranked rule S C) (visit-bound rule S) 0 (begin rule S)
 unfolding begin before flow visit-bound ranked top start
 within-begin Old S C = within-visited (ranked Old S C) (unreached-state Old S) (fits-unreached S Old tt)
-within-begin House S C = rw (← suc-is (3 * (S .regs + S .slots))) (within-unvisited (ranked House S C))
+within-begin House S C = rw (one-add (3 * (S .regs + S .slots))) (within-unvisited (ranked House S C))
 
 pub within-lengths : (rule : Rule) (S : Sheet) (C : Closed S) (bound k : ℕ) (r : Run State) → Within (ranked rule S C) bound k r
     → (b : ℕ) (s : State) → r .table b ≡ some s → map length s ≡ S .regs ∷ S .slots ∷ []

@@ -28,7 +28,7 @@ pub record Marked (c : Cell) : Type 0 where
 never : {f : Fault} {Q : Type 0} → _≡_ {A = Option Fault} (some f) none → Q
 never e = absurd (some-not-none e refl)
 
-pub first-none : (f g : Option Fault) → first-of f g ≡ none → (f ≡ none) × (g ≡ none)
+first-none : (f g : Option Fault) → first-of f g ≡ none → (f ≡ none) × (g ≡ none)
 unfolding first-of
 first-none none g e = (refl, e)
 first-none (some f) g e = never e

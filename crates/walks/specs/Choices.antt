@@ -1,13 +1,11 @@
 -- Small facts that every file uses: a decision's two sides, membership in a list, an option's two cases, an updated table.
-use mathlib.Core.Path.{_≡_, refl, sym, _∙_, fun-ext}
+use mathlib.Core.Path.{_≡_, refl}
 use mathlib.Core.Logic.{_⊎_, inl, inr}
 use mathlib.Core.List.{List, [], _∷_, _++_}
 use mathlib.Core.Option.{Option, none, some}
-use Prim.Native.Nat.{ℕ, _<_}
+use Prim.Native.Nat.{ℕ}
 use native.Mathlib.Omega.{arith}
 use native.Mathlib.Decide.{ℕ-discrete}
-use lib.ListN.{length, getD, set}
-use lib.Seq.{getD-set-same, getD-set-other}
 use Rattle.paper.specs.Cells.{pick}
 use Rattle.paper.specs.Runs.{update}
 use Rattle.paper.specs.Walks.{In, here, there}
@@ -55,11 +53,3 @@ module _ {A : Type 0} (table : ℕ → Option A) (b : ℕ) (a : A) where
   pub update-other : (c : ℕ) → ¬ (c ≡ b) → update table b a c ≡ table c
   unfolding update
   update-other c h = pick-no (ℕ-discrete c b) (some a) (table c) h
-
--- a table that is kept as a list
-pub update-list : {A : Type 0} (t : List (Option A)) (b : ℕ) (a : A) → b < length t → (λ c. getD (set t b (some a)) c none) ≡ update (λ c. getD t c none) b a
-update-list t b a l = fun-ext λ c. go c (ℕ-discrete c b)
-  where
-    go : (c : ℕ) → Dec (c ≡ b) → getD (set t b (some a)) c none ≡ update (λ c. getD t c none) b a c
-    go c (yes e) = rw e (getD-set-same t b (some a) none l ∙ sym (update-same (λ c. getD t c none) b a))
-    go c (no n) = getD-set-other t b c (some a) none n ∙ sym (update-other (λ c. getD t c none) b a c n)

@@ -16,7 +16,7 @@ use Rattle.paper.specs.Runs.{meet-states, flow, analysis, entered, checked-from
 use Rattle.paper.specs.Report.{Line, line-of, faults-from, block-faults, by-block, find-errors, kind-of}
 use Rattle.paper.specs.Walks.{In, here, there, along, HouseWalk, SameNames}
 use Rattle.paper.specs.declared.Rule.the-variants.{House}
-use Rattle.lists.specs.Or.{or-left}
+use Rattle.lists.specs.Split.{or-left}
 use Rattle.walks.specs.Choices.{some-not-none, in-nil, in-append}
 use Rattle.walks.specs.Meet.{house-names}
 use Rattle.walks.specs.Effects.{get-meet}

@@ -6,6 +6,7 @@ use mathlib.Core.Logic.{_⊎_, inl, inr}
 use mathlib.Core.Bool.{Bool, true, false, or-self}
 use mathlib.Core.List.{[]}
 use Prim.Native.Nat.{ℕ, _+_, _*_, _≤_, _<_}
+use native.Mathlib.Numerals.{one-add}
 use native.Mathlib.Omega.{arith}
 use Rattle.paper.specs.Text.{Name, name-same}
 use Rattle.paper.specs.Sheet.{change, Sheet, steps-of, reference-typed}
@@ -21,7 +22,7 @@ use Rattle.walks.specs.Visits.{Ranked, within-unvisited, within-ends}
 use Rattle.walks.specs.Visits as Visits
 use Rattle.walks.specs.Holding.{absent-named}
 use Rattle.walks.specs.Fits.{Shape, shape, Fits, fits-get, fits-entry, HouseKeeps, house-fits-all}
-use Rattle.walks.specs.Bounds.{Closed, sum-shape, suc-is}
+use Rattle.walks.specs.Bounds.{Closed, sum-shape}
 
 -- refusal 8: no `C` between names that differ in being reference-typed
 pub record Typed (S : Sheet) : Type 0 where
@@ -142,4 +143,4 @@ module _ (S : Sheet) (C : Closed S) (T : Typed S) where
   unfolding ranked begin before flow Visits.start
   typed-run-ends =
       let bound = S .blocks * (1 + 2 * (S .regs + S .slots)) in
-      within-ends ranked {bound = bound} bound {k = 0} (begin House S) (rw (← suc-is (2 * (S .regs + S .slots))) (within-unvisited ranked)) (omega arith)
+      within-ends ranked {bound = bound} bound {k = 0} (begin House S) (rw (one-add (2 * (S .regs + S .slots))) (within-unvisited ranked)) (omega arith)

@@ -2,7 +2,7 @@
 -- analysis gives it.
 use mathlib.Core.Path.{_≡_, refl, sym, subst}
 use mathlib.Core.Logic.{_↔_}
-use mathlib.Core.List.{List, [], _∷_, _++_, nil≢cons}
+use mathlib.Core.List.{List, [], _∷_, _++_, nil≢cons, append-eq-nil-iff}
 use mathlib.Core.Option.{Option, none, some}
 use Prim.Native.Nat.{ℕ, suc, zero, _+_, _≤_, _<_}
 use native.Mathlib.Omega.{arith}
@@ -17,10 +17,6 @@ use Rattle.paper.specs.declared.Rule.the-variants.{House}
 -- every block passes from the state it is checked from
 abbrev pub BlocksPass : Sheet → Type 0
 BlocksPass S = (b : ℕ) → b < S .blocks → Passes (reference-typed S) (steps-of S b) (checked-from House S b)
-
-append-none : {A : Type 0} (a b : List A) → a ++ b ≡ [] → (a ≡ []) × (b ≡ [])
-append-none [] b e = (refl, e)
-append-none (x ∷ a) b e = absurd (nil≢cons (sym e))
 
 module _ (S : Sheet) where
   lines-pass : (b place : ℕ) (xs : List Step) (s : State) → faults-from House S b place xs s ≡ [] → Passes (reference-typed S) xs s
@@ -47,7 +43,7 @@ module _ (S : Sheet) where
   blocks-pass (suc n) b e c l u = go (ℕ-discrete b c) (blocks-pass n (suc b) (p .1) c)
     where
       p : (block-faults House S b ≡ []) × (by-block (block-faults House S) (suc b) n ≡ [])
-      p = append-none (block-faults House S b) (by-block (block-faults House S) (suc b) n) e
+      p = append-eq-nil-iff .0 e
 
       go : Dec (b ≡ c) → (suc b ≤ c → c < suc b + n → Passes (reference-typed S) (steps-of S c) (checked-from House S c)) → Passes (reference-typed S) (steps-of S c) (checked-from House S c)
       go (yes q) rec = subst (λ (d : ℕ). Passes (reference-typed S) (steps-of S d) (checked-from House S d)) q (lines-pass b 0 (steps-of S b) (checked-from House S b) (p .0))

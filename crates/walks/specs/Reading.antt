@@ -3,7 +3,7 @@
 -- so that no later `T` changes a name's type. The reader adds a record at a time, and each keeps it so.
 use mathlib.Core.Path.{_≡_, refl, sym, _∙_, ap, subst}
 use mathlib.Core.Logic.{_⊎_, inl, inr, ⊎-map}
-use mathlib.Core.Bool.{Bool, true, false, cond, not, _||_, Bool·beq, true≢false}
+use mathlib.Core.Bool.{Bool, true, false, cond, not, Bool·beq, true≢false}
 use mathlib.Core.List.{List, [], _∷_, _++_}
 use mathlib.Core.Option.{Option, none, some}
 use Prim.Native.Nat.{ℕ, suc, zero, _+_, _≤_, _<_}
@@ -19,7 +19,7 @@ use Rattle.paper.specs.Report.{Line, faults, report-text}
 use Rattle.paper.specs.Answer.{accepted, said-of, said-after, answer}
 use Rattle.paper.specs.Walks.{In, here, there}
 use Rattle.paper.specs.declared.Rule.{Rule}
-use Rattle.lists.specs.Or.{or-left, or-right}
+use Rattle.lists.specs.Split.{or-left, or-right}
 use Rattle.walks.specs.Choices.{in-nil, in-append, some-not-none}
 use Rattle.walks.specs.Bounds.{Closed}
 use Rattle.walks.specs.Honest.{Typed}

@@ -2,11 +2,10 @@
 -- still once its queue is empty.
 use mathlib.Core.Path.{_≡_, refl, _∙_, ap}
 use mathlib.Core.List.{List, [], _∷_, _++_}
-use mathlib.Core.Option.{Option, none, some}
+use mathlib.Core.Option.{Option, some}
 use Prim.Native.Nat.{ℕ, suc, zero, _+_}
 use native.Mathlib.Nat.{zero-add, suc-add}
-use Rattle.paper.specs.Runs.{Flow, Run, store, push-at, push, spread, visit-at, step-at, step, run}
-use Rattle.walks.specs.Choices.{pick-yes, pick-no}
+use Rattle.paper.specs.Runs.{Flow, Run, push, spread, visit-at, step-at, step, run}
 
 module _ {A : Type 0} (F : Flow A) where
   -- one visit more, and a run that is cut in two
@@ -37,15 +36,3 @@ module _ {A : Type 0} (F : Flow A) where
   unfolding spread
   spread-last [] s x r = refl
   spread-last (t ∷ ss) s x r = spread-last ss s x (push F t x r)
-
-  pub push-unvisited : (s : ℕ) (x : A) (r : Run A) → r .table s ≡ none → push F s x r ≡ store F s x r
-  unfolding push push-at
-  push-unvisited s x r e = ap (λ (o : Option A). push-at F o s x r) e
-
-  pub push-same : (s : ℕ) (x a : A) (r : Run A) → r .table s ≡ some a → F .meet a x ≡ a → push F s x r ≡ r
-  unfolding push push-at
-  push-same s x a r e f = ap (λ (o : Option A). push-at F o s x r) e ∙ pick-yes (F .same (F .meet a x) a) r (store F s (F .meet a x) r) f
-
-  pub push-changed : (s : ℕ) (x a : A) (r : Run A) → r .table s ≡ some a → ¬ (F .meet a x ≡ a) → push F s x r ≡ store F s (F .meet a x) r
-  unfolding push push-at
-  push-changed s x a r e f = ap (λ (o : Option A). push-at F o s x r) e ∙ pick-no (F .same (F .meet a x) a) r (store F s (F .meet a x) r) f

@@ -75,7 +75,7 @@ module _ {A : Type 0} {F : Flow A} {n h : ℕ} (R : Ranked F n h) where
     within-queue g = omega (arith, g .room)
 
     -- the next block is taken from the queue: its visit counts from here on
-    pub within-take : {k : ℕ} {r : Run A} (b : ℕ) (q : List ℕ) → r .queue ≡ b ∷ q → Within bound k r → Within bound (suc k) (record { table = r .table; queue = q })
+    within-take : {k : ℕ} {r : Run A} (b : ℕ) (q : List ℕ) → r .queue ≡ b ∷ q → Within bound k r → Within bound (suc k) (record { table = r .table; queue = q })
     unfolding potential
     within-take {k} {r} b q e g = record {
       fit = g .fit;
@@ -104,7 +104,7 @@ module _ {A : Type 0} {F : Flow A} {n h : ℕ} (R : Ranked F n h) where
         stored b (no n) (inr (here p)) = absurd (n p)
         stored b (no n) (inr (there i)) = absurd (in-nil i)
 
-    pub within-push : {k : ℕ} (s : ℕ) (x : A) (r : Run A) → s < n → R .Fit x → Within bound k r → Within bound k (push F s x r)
+    within-push : {k : ℕ} (s : ℕ) (x : A) (r : Run A) → s < n → R .Fit x → Within bound k r → Within bound k (push F s x r)
     unfolding push push-at weight
     within-push {k} s x r l fx g = at (r .table s) refl
       where

@@ -4,7 +4,8 @@ use Prim.Native.Nat.{_+_, _≤_, _-_}
 use native.Mathlib.Omega.{arith}
 use borrow.Author.Needs.{needs}
 use lib.ListN.{length, getD}
-use Rattle.lists.specs.Over.{over, over-none, front-step}
+use Rattle.lists.specs.Over.{over, over-none}
+use Rattle.lists.specs.Maps.{any-step}
 use Rattle.cells.proofs.Rows.{filled-front}
 use Rattle.cells.proofs.load_row.Statement.{statement}
 use Rattle.cells.proofs.load_row.Tie as tie
@@ -40,7 +41,7 @@ loop-less : tie.Need-loop-less Inv-loop μ-loop
 loop-less c = search needs
 
 loop-again : tie.Need-loop-again Inv-loop μ-loop
-loop-again c = let l = c .before .before .loop .inv in (omega arith, l .1, front-step _ _ _ 0 _ _ (omega arith) (l .2) refl)
+loop-again c = let l = c .before .before .loop .inv in (omega arith, l .1, any-step _ _ _ 0 _ _ (l .2) refl)
 
 returns : tie.Need-returns Inv-loop μ-loop
 returns c =

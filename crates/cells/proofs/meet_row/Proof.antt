@@ -6,9 +6,9 @@ use Prim.Native.Nat.{_+_, _≤_, _<_, _-_}
 use native.Mathlib.Omega.{arith}
 use borrow.Author.Needs.{needs}
 use lib.ListN.{length, length-set}
-use Rattle.lists.specs.Over.{over, over-none}
+use Rattle.lists.specs.Over.{over, over-none, over-step}
 use Rattle.cells.specs.States.{changes, meet-at}
-use Rattle.cells.proofs.Rows.{word-step, word-moved, word-stays}
+use Rattle.cells.proofs.Rows.{word-moved, word-stays}
 use Rattle.cells.proofs.meet_row.Statement.{statement}
 use Rattle.cells.proofs.meet_row.Tie as tie
 
@@ -63,7 +63,7 @@ loop-again c =
     let fits : l .before .before .args .at + l .loop .i < length (l .before .before .args .words .now) = omega arith in (
       omega arith,
       simp length-set (inv .1),
-      word-step _ _ _ _ _ _ fits (inv .2) (c .before .meet .ensures .0),
+      over-step _ _ _ _ 0 _ _ fits (inv .2) (c .before .meet .ensures .0),
       ⊎-elim
           (λ w. w .1 ∙ word-moved _ _ _ _ _ _ fits (inv .2) (c .before .meet .ensures .0) (w .0 .taken))
           (λ w. w .1 ∙ word-stays _ _ _ _ _ _ fits (inv .2) (c .before .meet .ensures .0) _ (inv .3) (w .0 .left))

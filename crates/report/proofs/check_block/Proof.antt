@@ -7,7 +7,7 @@ use lib.ListN.{length, getD}
 use Rattle.paper.specs.Limits.{max-regs, max-slots}
 use Rattle.steps.specs.Laws.{in-range-most}
 use Rattle.sheet.specs.Allocated.{in-range-at, honest-at}
-use Rattle.steps.specs.Actions.{action-at, InRange}
+use Rattle.steps.specs.Actions.{InRange}
 use Rattle.sheet.specs.Loaded.{step-total}
 use Rattle.report.proofs.LawsErrors.{error-within}
 use Rattle.report.proofs.LawsBlock.{SoFar, BlockWithin, block-within, so-far-none, so-far-all, so-far-more}

@@ -11,7 +11,7 @@ use Rattle.paper.specs.Report.{missing-names, faults}
 use Rattle.steps.proofs.Action.{the-type}
 use Rattle.steps.specs.declared.Action.{Action}
 use Rattle.steps.specs.declared.Action.the-variants.{Spill, Reload, Move, Change, Operation, Safepoint}
-use Rattle.steps.specs.Actions.{step-of, action-at, RoomFor}
+use Rattle.steps.specs.Actions.{step-of, RoomFor}
 use Rattle.steps.specs.Faults.{some-in}
 use Rattle.sheet.specs.Loaded.{sheet-of}
 use Rattle.report.specs.Missing.{step-lines}

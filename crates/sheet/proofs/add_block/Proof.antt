@@ -3,12 +3,11 @@
 use mathlib.Core.Path.{_≡_, ap, _∙_}
 use mathlib.Core.List.{List}
 use Prim.Native.Nat.{ℕ, _+_}
-use lib.ListN.{length, getD, set}
+use lib.ListN.{length, getD, set, length-set}
 use Rattle.lists.specs.Over.{length-over}
 use Rattle.layout.specs.Layout.{opened-word}
 use Rattle.sheet.proofs.LawsBody.{block-stored, block-written}
 use native.Mathlib.Omega.{arith}
-use lib.ListN.{length-set}
 use borrow.Author.Needs.{needs}
 use Rattle.sheet.proofs.add_block.Statement.{statement}
 use Rattle.sheet.proofs.add_block.Tie as tie

@@ -1,12 +1,10 @@
 -- `sheet::add_step` meets its contract: only the step's words, its block's total and the count of steps change (`step-written`), so
 -- the words mean the sheet with that step at its end (`step-stored`); a block's total is at most the count, so one more fits.
-use mathlib.Core.Path.{_≡_}
+use mathlib.Core.Path.{_≡_, refl}
 use Prim.Native.Nat.{ℕ, _+_, _-_, _*_}
-use lib.ListN.{getD}
+use lib.ListN.{getD, length-set}
 use Rattle.sheet.proofs.LawsBody.{step-stored, step-written}
 use native.Mathlib.Omega.{arith}
-use mathlib.Core.Path.{refl}
-use lib.ListN.{length-set}
 use Rattle.layout.specs.Layout.{opened-word, block-base, step-total-word, block-words}
 use borrow.Author.Needs.{needs}
 use Rattle.sheet.proofs.add_step.Statement.{statement}

@@ -4,9 +4,8 @@ use mathlib.Core.Path.{_≡_, refl, sym, _∙_}
 use mathlib.Core.Bool.{false}
 use native.Mathlib.Omega.{arith}
 use lib.Dec.{leb}
-use lib.ListN.{getD}
+use lib.ListN.{getD, take}
 use borrow.Author.Tests.{leb-false}
-use lib.ListN.{take}
 use Rattle.paper.specs.Refusals.{block-record, block-of}
 use Rattle.layout.specs.Layout.{blocks-word, opened-word}
 use Rattle.fields.specs.Fields.{fields-behind}

@@ -2,8 +2,7 @@
 -- is told of the line still holds; the action finds them where they stand.
 use mathlib.Core.Path.{_≡_, sym, _∙_}
 use native.Mathlib.Omega.{arith}
-use lib.ListN.{getD}
-use lib.ListN.{length, length-map}
+use lib.ListN.{length, getD, length-map}
 use Rattle.lists.specs.Region.{region, length-region}
 use Rattle.paper.specs.Refusals.{step-record, operation-of}
 use Rattle.layout.specs.Layout.{regs-word, steps-word, typed-base, typed-words, defs-from, operand-words}

@@ -10,7 +10,7 @@ use Rattle.paper.specs.Refusals.{typed-record, typed-of}
 use Rattle.fields.specs.Fields.{fields-behind}
 use Rattle.records.specs.Records.{Told}
 use Rattle.sheet.specs.Loaded.{sheet-of}
-use Rattle.lists.specs.Or.{or-left, or-right}
+use Rattle.lists.specs.Split.{or-left, or-right}
 use Rattle.layout.specs.Layout.{opened-word, begun-word}
 use Rattle.sheet.proofs.LawsJudged.{lowest-zero}
 use Rattle.sheet.proofs.LawsProgress.{size-of, begun-of, counted-by, least-of}

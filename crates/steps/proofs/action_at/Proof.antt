@@ -1,7 +1,7 @@
 -- `action_at` meets its contract: one case for each tag; every tag above 4 is a safepoint's (`last-tag`).
 use borrow.Author.Needs.{needs}
 use Rattle.steps.specs.Actions.{action-at, action-of}
-use Rattle.steps.proofs.PackingLaws.{last-tag}
+use Rattle.steps.proofs.LawsPacking.{last-tag}
 use Rattle.steps.proofs.action_at.Statement.{statement}
 use Rattle.steps.proofs.action_at.Tie as tie
 

@@ -1,7 +1,7 @@
 -- `change` meets its contract: one case for each rule; the slot is below the count, so the word that is read means the state's
 -- cell; under the house rule what becomes of it is stored in the state that `overwrite` leaves.
 use borrow.Author.Needs.{needs}
-use Rattle.steps.proofs.EffectLaws.{old-change, house-change}
+use Rattle.steps.proofs.LawsEffects.{old-change, house-change}
 use Rattle.steps.proofs.change.Statement.{statement}
 use Rattle.steps.proofs.change.Tie as tie
 

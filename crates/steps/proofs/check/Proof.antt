@@ -12,7 +12,7 @@ use Rattle.steps.specs.declared.Action.the-variants.{Spill, Reload, Move
 use Rattle.steps.specs.declared.Action.{Action}
 use Rattle.steps.specs.Faults.{fault-of}
 use Rattle.steps.specs.Actions.{step-of}
-use Rattle.steps.proofs.CheckLaws.{change-means-in, uses-mean, slots-mean}
+use Rattle.steps.proofs.LawsChecks.{change-means-in, uses-mean, slots-mean}
 use Rattle.steps.proofs.Action.{the-type}
 use Rattle.steps.proofs.check.Statement.{statement}
 use Rattle.paper.specs.Steps as paper

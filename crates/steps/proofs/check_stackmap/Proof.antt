@@ -8,7 +8,7 @@ use lib.Pow.{pow-pos}
 use lib.Count.{trailingZeros}
 use Rattle.lists.specs.Bits.{set-bits}
 use Rattle.steps.specs.Checks.{first-error, slot-in}
-use Rattle.steps.proofs.CheckLaws.{no-slot, next-slot, slot-below, passed, failed}
+use Rattle.steps.proofs.LawsChecks.{no-slot, next-slot, slot-below, passed, failed}
 use Rattle.steps.proofs.check_stackmap.Statement.{statement}
 use Rattle.steps.proofs.check_stackmap.Tie as tie
 

@@ -8,7 +8,7 @@ use lib.ListN.{getD}
 use Rattle.lists.specs.Regions.{at-place}
 use Rattle.lists.specs.Region.{region}
 use Rattle.steps.specs.Checks.{first-error, use-in}
-use Rattle.steps.proofs.CheckLaws.{no-use, next-use, passed, failed}
+use Rattle.steps.proofs.LawsChecks.{no-use, next-use, passed, failed}
 use Rattle.steps.proofs.check_uses.Statement.{statement}
 use Rattle.steps.proofs.check_uses.Tie as tie
 

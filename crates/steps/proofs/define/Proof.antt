@@ -8,7 +8,7 @@ use borrow.Author.Needs.{needs}
 use Rattle.cells.specs.States.{state-of}
 use Rattle.cells.specs.Packed.{name-of-word}
 use Rattle.steps.specs.Defs.{cleared-of}
-use Rattle.steps.proofs.EffectLaws.{defined, cleared-old, cleared-house}
+use Rattle.steps.proofs.LawsEffects.{defined, cleared-old, cleared-house}
 use Rattle.steps.proofs.define.Statement.{statement}
 use Rattle.steps.proofs.define.Tie as tie
 

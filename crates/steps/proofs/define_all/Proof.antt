@@ -9,7 +9,7 @@ use Rattle.lists.specs.Regions.{at-place}
 use Rattle.lists.specs.Region.{region}
 use Rattle.cells.specs.States.{state-of}
 use Rattle.steps.specs.Defs.{define-words}
-use Rattle.steps.proofs.EffectLaws.{no-def, next-def}
+use Rattle.steps.proofs.LawsEffects.{no-def, next-def}
 use Rattle.steps.proofs.define_all.Statement.{statement}
 use Rattle.steps.proofs.define_all.Tie as tie
 

@@ -9,7 +9,7 @@ use borrow.Author.Needs.{needs}
 use Rattle.paper.specs.Text.{Name}
 use Rattle.cells.specs.States.{state-of}
 use Rattle.steps.specs.Actions.{steps-at, HonestSteps}
-use Rattle.steps.proofs.EffectLaws.{no-step, next-step}
+use Rattle.steps.proofs.LawsEffects.{no-step, next-step}
 use Rattle.steps.proofs.effects.Statement.{statement}
 use Rattle.paper.specs.Steps as paper
 use Rattle.steps.proofs.effects.Tie as tie

@@ -12,7 +12,7 @@ use Rattle.steps.specs.declared.Action.the-variants.{Spill, Reload, Move
 use Rattle.steps.specs.declared.Action.{Action}
 use Rattle.steps.specs.Faults.{some-in}
 use Rattle.steps.specs.Actions.{step-of}
-use Rattle.steps.proofs.PackingLaws.{missing-first, missing-second}
+use Rattle.steps.proofs.LawsPacking.{missing-first, missing-second}
 use Rattle.steps.proofs.Action.{the-type}
 use Rattle.steps.proofs.missing.Statement.{statement}
 use Rattle.steps.proofs.missing.Tie as tie

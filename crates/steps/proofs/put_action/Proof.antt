@@ -7,7 +7,7 @@ use Rattle.layout.specs.Layout.{step-words}
 use borrow.Author.Needs.{needs}
 use lib.ListN.{length, getD, length-set}
 use Rattle.lists.specs.Over.{over, over-none, over-step}
-use Rattle.steps.proofs.PackingLaws.{written}
+use Rattle.steps.proofs.LawsPacking.{written}
 use Rattle.steps.proofs.put_action.Statement.{statement}
 use Rattle.steps.proofs.put_action.Tie as tie
 

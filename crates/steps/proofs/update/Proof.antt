@@ -1,11 +1,11 @@
 -- `update` meets its contract: one case for each kind of step; what the function called says of the state is the paper's effect,
--- by a law of `EffectLaws` or, for `C`, by `change` itself.
+-- by a law of `LawsEffects` or, for `C`, by `change` itself.
 use mathlib.Core.List.{[], _∷_}
 use mathlib.Core.Path.{_∙_}
 use native.Mathlib.Omega.{arith}
 use borrow.Author.Needs.{needs}
 use Rattle.steps.specs.Actions.{step-of}
-use Rattle.steps.proofs.EffectLaws.{spill-effect, reload-effect, move-effect, safepoint-effect, operation-effect}
+use Rattle.steps.proofs.LawsEffects.{spill-effect, reload-effect, move-effect, safepoint-effect, operation-effect}
 use Rattle.steps.proofs.update.Statement.{statement}
 use Rattle.steps.proofs.update.Tie as tie
 

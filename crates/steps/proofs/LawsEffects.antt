@@ -13,7 +13,6 @@ use Rattle.paper.specs.Text.{Name}
 use Rattle.paper.specs.Sheet as sheet
 use Rattle.paper.specs.Sheet.{Operand}
 use Rattle.paper.specs.Cells.{named, overwritten, copied, house-changed, old-changed}
-use Rattle.paper.specs.Steps as paper
 use Rattle.paper.specs.Steps.{State, get, put, copy, cell-at, store-at, location-of, everywhere, placed, safepoint-row, old-define, house-define, old-effect, house-effect, effect, effects}
 use Rattle.paper.specs.declared.Rule.{Rule}
 use Rattle.paper.specs.declared.Rule.the-variants.{Old, House}

@@ -6,8 +6,7 @@ use mathlib.Core.Option.{some}
 use Prim.Native.Nat.{ℕ, _+_, _-_, _/_, _%_, _^_, _≤_, _<_}
 use native.Mathlib.Nat.{zero-add}
 use native.Mathlib.Omega.{arith}
-use borrow.Author.Tests.{eq-eqb, ne-eqb, eqb-true, eqb-false}
-use lib.Dec.{eqb}
+use borrow.Author.Tests.{eq-eqb, ne-eqb}
 use lib.ListN.{length, getD}
 use lib.Count.{trailingZeros}
 use Rattle.lists.specs.Region.{region}
@@ -130,7 +129,7 @@ module _ (counts : List ℕ) (s : List (List ℕ)) where
   unfolding register-of location-of get
   register-cell r d h = rw (ne-eqb _ _ d) (state-cell counts s 0 r h)
 
-  pub slot-cell : (k : ℕ) → k < getD counts 1 0 → get (state-of counts s) (slot k) ≡ cell-of (getD (getD s 1 []) k 0)
+  slot-cell : (k : ℕ) → k < getD counts 1 0 → get (state-of counts s) (slot k) ≡ cell-of (getD (getD s 1 []) k 0)
   unfolding get
   slot-cell k h = state-cell counts s 1 k h
 
