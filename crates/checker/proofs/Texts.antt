@@ -12,7 +12,7 @@ use Rattle.paper.specs.Text.{Bytes, tab, line-feed, digits}
 use Rattle.paper.specs.Limits.{report-size}
 use Rattle.paper.specs.Refusals.{Reading, loaded, refused, read}
 use Rattle.paper.specs.Report.{Line, behind-tabs, faults}
-use Rattle.paper.specs.Answer.{Said, accepted, faulty, turned-away, said-of, said-after, answer, letter-X, written, Lent, too-short, laid, zeros, Outcome, outcome-of, outcome}
+use Rattle.paper.specs.Answer.{Said, accepted, faulty, turned-away, said-of, said-after, answer, letter-X, written, Lent, too-short, laid, zeros, answer-of, report-of, Outcome, outcome-of, outcome}
 use Rattle.paper.specs.declared.Rule.{Rule}
 use Rattle.paper.specs.declared.Answer.{Answer}
 use Rattle.paper.specs.declared.Answer.the-variants.{Accepted, Faulty, Refused}
@@ -62,7 +62,7 @@ module _ {rule : Rule} {sheet : Bytes} {before after : Lent} {r : Answer} (c : C
 
   -- an answer with a report
   pub texted : (n : ℕ) → (r ≡ Accepted n) ⊎ (r ≡ Faulty n) → Texted rule sheet before after n
-  unfolding outcome outcome-of text-of lent-behind written
+  unfolding outcome outcome-of answer-of report-of text-of lent-behind written
   texted n e = at (too-short before) refl (answer rule sheet) refl
     where
       not-refused : {Q : Type 0} {k l : ℕ} → r ≡ Refused k l → Q
@@ -88,7 +88,7 @@ module _ {rule : Rule} {sheet : Bytes} {before after : Lent} {r : Answer} (c : C
 
   -- refusal 1 changes nothing, and no other has its number
   pub texted-short : (line : ℕ) → r ≡ Refused 1 line → Texted rule sheet before after 0
-  unfolding outcome outcome-of text-of lent-behind
+  unfolding outcome outcome-of answer-of report-of text-of lent-behind
   texted-short line e = at (too-short before) refl (answer rule sheet) refl
     where
       at : (b : Bool) → too-short before ≡ b → (said : Said) → answer rule sheet ≡ said → Texted rule sheet before after 0
@@ -108,7 +108,7 @@ module _ {rule : Rule} {sheet : Bytes} {before after : Lent} {r : Answer} (c : C
       pub left : after ≡ record { report = before .report; words = zeros (before .words); queue = zeros (before .queue) }
 
     pub turned : Turned
-    unfolding outcome outcome-of
+    unfolding outcome outcome-of answer-of report-of
     turned = at (too-short before) refl (answer rule sheet) refl
       where
         at : (b : Bool) → too-short before ≡ b → (said : Said) → answer rule sheet ≡ said → Turned

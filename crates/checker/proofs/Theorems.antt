@@ -6,7 +6,7 @@ use mathlib.Core.Bool.{Bool, true, false}
 use Prim.Native.Nat.{ℕ}
 use native.Mathlib.Omega.{arith}
 use Rattle.paper.specs.Text.{Bytes}
-use Rattle.paper.specs.Answer.{Said, accepted, faulty, turned-away, answer, Lent, too-short, Outcome, outcome-of, outcome}
+use Rattle.paper.specs.Answer.{Said, accepted, faulty, turned-away, answer, Lent, too-short, answer-of, Outcome, outcome-of, outcome}
 use Rattle.paper.specs.declared.Rule.{Rule}
 use Rattle.paper.specs.declared.Rule.the-variants.{House}
 use Rattle.paper.specs.declared.Answer.{Answer}
@@ -31,7 +31,7 @@ export-one-outcome p q = (p .verdict-is ∙ sym (q .verdict-is), p .lent-is ∙ 
 
 -- an accepted call answers what the paper says of the bytes
 pub accepted-said : {rule : Rule} {sheet : Bytes} {before after : Lent} {n : ℕ} → Checked rule sheet before after (Accepted n) → (text : Bytes) × (answer rule sheet ≡ accepted text)
-unfolding outcome outcome-of
+unfolding outcome outcome-of answer-of
 accepted-said {rule} {sheet} {before} {after} {n} c = at (too-short before) refl (answer rule sheet) refl
   where
     told : (o : Outcome) → outcome rule sheet before ≡ o → Accepted n ≡ o .answer

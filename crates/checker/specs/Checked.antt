@@ -7,7 +7,7 @@ use lib.ListN.{length}
 use Rattle.paper.specs.Text.{Bytes}
 use Rattle.paper.specs.Limits.{report-size, max-sheet, max-steps}
 use Rattle.paper.specs.Refusals.{step-count}
-use Rattle.paper.specs.Answer.{Said, accepted, faulty, turned-away, answer, written, Lent, too-short, laid, zeros, Outcome, outcome}
+use Rattle.paper.specs.Answer.{Said, turned-away, answer, written, Lent, too-short, laid, zeros, answer-of, report-of, Outcome, outcome}
 use Rattle.sheet.specs.Loaded.{sheet-of}
 use Rattle.paper.specs.declared.Rule.{Rule}
 use Rattle.paper.specs.declared.Rule.the-variants.{Old, House}
@@ -25,17 +25,6 @@ refusal-text number line = written (turned-away number line)
 
 abbrev pub lent : List ℕ → List ℕ → List ℕ → Lent
 lent report words queue = record { report = report; words = words; queue = queue }
-
--- the answer that is returned for what is said, and the report behind it
-unfoldable pub answer-of : Said → Answer
-answer-of (accepted text) = Accepted (length text)
-answer-of (faulty text) = Faulty (length text)
-answer-of (turned-away number line) = Refused number line
-
-unfoldable pub report-of : Said → List ℕ → List ℕ
-report-of (accepted text) report = laid text report
-report-of (faulty text) report = laid text report
-report-of (turned-away number line) report = report
 
 -- the numbers of an answer keep their bounds
 abbrev pub AnswerWithin : Answer → Type 0
