@@ -6,7 +6,7 @@ use mathlib.Core.List.{List, [], _∷_, _++_, append-assoc}
 use Prim.Native.Nat.{ℕ, _≤_}
 use native.Mathlib.Omega.{arith}
 use lib.ListN.{length, drop, length-append}
-use Rattle.lists.specs.Sets.{Wrote, length-wrote}
+use Rattle.lists.specs.Sets.{Wrote}
 use Rattle.fields.specs.Spelling.{length-digits}
 use Rattle.paper.specs.Text.{Bytes, tab, line-feed, digits}
 use Rattle.paper.specs.Limits.{report-size}
@@ -18,7 +18,7 @@ use Rattle.paper.specs.declared.Answer.{Answer}
 use Rattle.paper.specs.declared.Answer.the-variants.{Accepted, Faulty, Refused}
 use Rattle.report.specs.Reported.{wrote-laid}
 use Rattle.checker.specs.Lengths.{long}
-use Rattle.checker.specs.Checked.{lent, refusal-text, Checked, text-of, lent-behind, Texted}
+use Rattle.checker.specs.Checked.{lent, refusal-text, Checked, text-outcome, Stated}
 use Rattle.checker.proofs.Refused.{read-bounded}
 
 pub digits-short : (n : ℕ) → n ≤ 65537 → length (digits n) ≤ 5
@@ -42,6 +42,17 @@ pub laid-length : (text report : List ℕ) → length text ≤ length (laid text
 unfolding laid
 laid-length text report = omega (arith, length-append text (drop (length text) report))
 
+-- refusal 1 changes nothing
+pub short-outcome : (text : Bytes) (before : Lent) → too-short before ≡ true → Stated text before before 0
+unfolding text-outcome
+short-outcome text before e = record { whole = rw e; fits = omega arith }
+
+-- any other answer leaves a text, and the scratch zero
+pub text-left : {text : Bytes} {before after : Lent} {n : ℕ} → too-short before ≡ false → n ≡ length text
+    → after ≡ record { report = laid text (before .report); words = zeros (before .words); queue = zeros (before .queue) } → Stated text before after n
+unfolding text-outcome
+text-left {text} {before} s k a = record { whole = rw (s, k, a); fits = rw (a, k) (laid-length text (before .report)) }
+
 -- bytes are never refused by number 1
 said-number : (rule : Rule) (sheet : Bytes) (number line : ℕ) → answer rule sheet ≡ turned-away number line → 2 ≤ number
 unfolding answer said-after said-of
@@ -61,38 +72,30 @@ module _ {rule : Rule} {sheet : Bytes} {before after : Lent} {r : Answer} (c : C
   answer-told o e = (ap (λ (x : Outcome). x .answer) (c .whole ∙ e), ap (λ (x : Outcome). x .lent) (c .whole ∙ e))
 
   -- an answer with a report
-  pub texted : (n : ℕ) → (r ≡ Accepted n) ⊎ (r ≡ Faulty n) → Texted rule sheet before after n
-  unfolding outcome outcome-of answer-of report-of text-of lent-behind written
+  pub texted : (n : ℕ) → (r ≡ Accepted n) ⊎ (r ≡ Faulty n) → Stated (written (answer rule sheet)) before after n
+  unfolding outcome outcome-of answer-of report-of written
   texted n e = at (too-short before) refl (answer rule sheet) refl
     where
       not-refused : {Q : Type 0} {k l : ℕ} → r ≡ Refused k l → Q
       not-refused f = ⊎-elim (λ h. let z : _≡_ {A = ℕ} 0 1 = cc in absurd (omega arith)) (λ h. let z : _≡_ {A = ℕ} 0 1 = cc in absurd (omega arith)) e
 
-      with-text : (text : Bytes) → too-short before ≡ false → written (answer rule sheet) ≡ text → n ≡ length text
-          → after ≡ record { report = laid text (before .report); words = zeros (before .words); queue = zeros (before .queue) } → Texted rule sheet before after n
-      with-text text s t k a = record {
-        length-is = rw (s, t) k;
-        lent-is = rw (s, t) a;
-        fits = rw (a, k) (laid-length text (before .report));
-      }
-
-      at : (b : Bool) → too-short before ≡ b → (said : Said) → answer rule sheet ≡ said → Texted rule sheet before after n
+      at : (b : Bool) → too-short before ≡ b → (said : Said) → answer rule sheet ≡ said → Stated (written (answer rule sheet)) before after n
       at true s said t = not-refused (answer-told (record { answer = Refused 1 0; lent = before }) (rw s) .0)
       at false s (accepted text) t =
           let p = answer-told (outcome-of (accepted text) before) (rw (s, t)) in
-          with-text text s (ap written t) (⊎-elim (λ h. (cc)) (λ h. let z : _≡_ {A = ℕ} 0 1 = cc in absurd (omega arith)) e) (p .1)
+          rw t (text-left {text = text} s (⊎-elim (λ h. (cc)) (λ h. let z : _≡_ {A = ℕ} 0 1 = cc in absurd (omega arith)) e) (p .1))
       at false s (faulty text) t =
           let p = answer-told (outcome-of (faulty text) before) (rw (s, t)) in
-          with-text text s (ap written t) (⊎-elim (λ h. let z : _≡_ {A = ℕ} 0 1 = cc in absurd (omega arith)) (λ h. (cc)) e) (p .1)
+          rw t (text-left {text = text} s (⊎-elim (λ h. let z : _≡_ {A = ℕ} 0 1 = cc in absurd (omega arith)) (λ h. (cc)) e) (p .1))
       at false s (turned-away k l) t = not-refused (answer-told (outcome-of (turned-away k l) before) (rw (s, t)) .0)
 
   -- refusal 1 changes nothing, and no other has its number
-  pub texted-short : (line : ℕ) → r ≡ Refused 1 line → Texted rule sheet before after 0
-  unfolding outcome outcome-of answer-of report-of text-of lent-behind
+  pub texted-short : (line : ℕ) → r ≡ Refused 1 line → Stated (written (answer rule sheet)) before after 0
+  unfolding outcome outcome-of answer-of report-of
   texted-short line e = at (too-short before) refl (answer rule sheet) refl
     where
-      at : (b : Bool) → too-short before ≡ b → (said : Said) → answer rule sheet ≡ said → Texted rule sheet before after 0
-      at true s said t = let p = answer-told (record { answer = Refused 1 0; lent = before }) (rw s) in record { length-is = rw s; lent-is = rw s (p .1); fits = omega arith }
+      at : (b : Bool) → too-short before ≡ b → (said : Said) → answer rule sheet ≡ said → Stated (written (answer rule sheet)) before after 0
+      at true s said t = let p = answer-told (record { answer = Refused 1 0; lent = before }) (rw s) in rw (p .1) (short-outcome (written (answer rule sheet)) before s)
       at false s (accepted text) t = let p = answer-told (outcome-of (accepted text) before) (rw (s, t)) .0 in let z : _≡_ {A = ℕ} 0 1 = cc in absurd (omega arith)
       at false s (faulty text) t = let p = answer-told (outcome-of (faulty text) before) (rw (s, t)) .0 in let z : _≡_ {A = ℕ} 0 1 = cc in absurd (omega arith)
       at false s (turned-away k l) t =
@@ -129,16 +132,13 @@ module _ {rule : Rule} {sheet : Bytes} {before after : Lent} {r : Answer} (c : C
     room = rw (turned .left) (long (before .report) (before .words) (before .queue) (turned .long) .0)
 
     pub texted-refusal : {report : List ℕ} {n : ℕ} → number ≤ 9 → line ≤ 65537 → Wrote (after .report) 0 (refusal-text number line) report n
-        → Texted rule sheet before (lent report (after .words) (after .queue)) n
-    unfolding text-of lent-behind refusal-text
+        → Stated (written (answer rule sheet)) before (lent report (after .words) (after .queue)) n
+    unfolding refusal-text
     texted-refusal {report} {n} h k w =
         let t = turned in
         let short : length (refusal-text number line) ≤ 14 = refusal-length number line h k in
         let big = room in
-        record {
-          length-is = rw (t .long, t .said) (unfold refusal-text in (omega (arith, w .next)));
-          lent-is =
-              rw (t .long, t .said)
-              (unfold refusal-text in (cc (wrote-laid w (omega (arith, w .next)), ap (λ (x : Lent). x .report) (t .left), ap (λ (x : Lent). x .words) (t .left), ap (λ (x : Lent). x .queue) (t .left))));
-          fits = omega (arith, w .next, length-wrote w);
-        }
+        let long : n ≡ length (refusal-text number line) = omega (arith, w .next) in
+        let left : lent report (after .words) (after .queue) ≡ record { report = laid (refusal-text number line) (before .report); words = zeros (before .words); queue = zeros (before .queue) } =
+        cc (wrote-laid w (omega (arith, w .next)), ap (λ (x : Lent). x .report) (t .left), ap (λ (x : Lent). x .words) (t .left), ap (λ (x : Lent). x .queue) (t .left)) in
+        rw (t .said) (text-left {text = refusal-text number line} (t .long) long left)

@@ -12,7 +12,7 @@ use Rattle.paper.specs.declared.Rule.the-variants.{House}
 use Rattle.paper.specs.declared.Answer.{Answer}
 use Rattle.paper.specs.declared.Answer.the-variants.{Accepted, Refused}
 use Rattle.walks.specs.Theorems.{AcceptedBytes, accepted-bytes}
-use Rattle.checker.specs.Checked.{Checked, Texted, Exported}
+use Rattle.checker.specs.Checked.{Checked, TextOutcome, Stated, Exported}
 use Rattle.checker.specs.declared.Verdict.{Verdict}
 
 pub check-one-outcome : {rule : Rule} {sheet : Bytes} {before after after′ : Lent} {r r′ : Answer} → Checked rule sheet before after r → Checked rule sheet before after′ r′
@@ -21,9 +21,12 @@ check-one-outcome p q =
     let e = p .whole ∙ sym (q .whole) in
     (ap (λ (o : Outcome). o .answer) e, ap (λ (o : Outcome). o .lent) e)
 
-pub answer-text-one-outcome : {rule : Rule} {sheet : Bytes} {before after after′ : Lent} {r r′ : ℕ} → Texted rule sheet before after r → Texted rule sheet before after′ r′
+-- `answer_text`, `entry_states` and `text_of`, each with its text
+pub text-one-outcome : {text : Bytes} {before after after′ : Lent} {r r′ : ℕ} → Stated text before after r → Stated text before after′ r′
     → (r ≡ r′) × (after ≡ after′)
-answer-text-one-outcome p q = (p .length-is ∙ sym (q .length-is), p .lent-is ∙ sym (q .lent-is))
+text-one-outcome p q =
+    let e = p .whole ∙ sym (q .whole) in
+    (ap (λ (o : TextOutcome). o .text-length) e, ap (λ (o : TextOutcome). o .buffers) e)
 
 pub export-one-outcome : {house : Bool} {sheet : Bytes} {before after after′ : Lent} {r r′ : Verdict} → Exported house sheet before after r → Exported house sheet before after′ r′
     → (r ≡ r′) × (after ≡ after′)

@@ -1,6 +1,6 @@
 -- From what the callees promise to the text of a sheet's entry states, and from that to the outcome of a call.
 use mathlib.Core.Path.{_≡_, refl, sym, ap, _∙_, subst}
-use mathlib.Core.Bool.{Bool, true, false, cond, true≢false}
+use mathlib.Core.Bool.{true, false, true≢false}
 use mathlib.Core.List.{List, [], _∷_}
 use Prim.Native.Nat.{ℕ, _≤_}
 use native.Mathlib.Omega.{arith}
@@ -10,7 +10,7 @@ use Rattle.paper.specs.Text.{Bytes, Name}
 use Rattle.paper.specs.Sheet.{Sheet}
 use Rattle.paper.specs.Limits.{report-size}
 use Rattle.paper.specs.Report.{missing-allocations}
-use Rattle.paper.specs.Answer.{answer, written, Lent, too-short, laid, zeros}
+use Rattle.paper.specs.Answer.{too-short, laid, zeros}
 use Rattle.paper.specs.declared.Rule.{Rule}
 use Rattle.layout.specs.Layout.{blocks-word, run-words}
 use Rattle.sheet.specs.Loaded.{sheet-of, Loaded}
@@ -23,12 +23,11 @@ use Rattle.report.specs.Missing.{names-lines, step-lines, missing-lines, Missin
 use Rattle.report.specs.declared.Missing.{Missing}
 use Rattle.report.specs.declared.Missing.the-variants.{Found}
 use Rattle.report.specs.Reported.{wrote-laid}
-use Rattle.checker.specs.Checked.{lent, text-of, lent-behind, Texted}
+use Rattle.checker.specs.Checked.{lent, Stated}
 use Rattle.checker.proofs.Laws.{loads-sheet, refuses-sheet}
-use Rattle.checker.proofs.Texts.{laid-length}
+use Rattle.checker.proofs.Texts.{text-left}
 use Rattle.states.specs.EntryStates.{blocks-text, unless-missing, states-after, entry-states}
-use Rattle.states.specs.Stated.{longest-text, Outcome, outcome, Stated, part-text, Written, HoldsStates}
-use Rattle.states.specs.declared.Part.the-variants.{Answer}
+use Rattle.states.specs.Stated.{longest-text, Written, HoldsStates}
 
 -- ---- the text of a sheet
 
@@ -97,28 +96,8 @@ written-text e w h fits same-words same-queue = rw e (record {
 
 -- ---- the outcome
 
-pub short-outcome : (text : Bytes) (before : Lent) → too-short before ≡ true → Stated text before before 0
-unfolding outcome
-short-outcome text before e = record { whole = rw e; fits = omega arith }
-
 pub stated : {text : Bytes} {out words queue out′ words₁ queue₁ words′ queue′ : List ℕ} {r : ℕ}
     → Written text out words queue out′ words₁ queue₁ r → words′ ≡ replicate (length words₁) 0 → queue′ ≡ replicate (length queue₁) 0
     → too-short (lent out words queue) ≡ false → Stated text (lent out words queue) (lent out′ words′ queue′) r
-unfolding outcome zeros
-stated {text} {out} p w q e = record {
-  whole = rw (e, w, q, p .same-words, p .same-queue, p .out-is, p .length-is);
-  fits = rw (p .length-is, p .out-is) (laid-length text out);
-}
-
--- what a program writes of an answer is stated the same way
-choice : (text : Bytes) (before after : Lent) (short : Bool)
-    → _≡_ {A = Outcome} (record { text-length = length (cond short [] text); lent = cond short before after }) (cond short (record { text-length = 0; lent = before }) (record { text-length = length text; lent = after }))
-choice text before after true = refl
-choice text before after false = refl
-
-pub answer-stated : {sheet : Bytes} {before after : Lent} {r : ℕ} (rule : Rule) → Texted rule sheet before after r → Stated (part-text Answer rule sheet) before after r
-unfolding part-text text-of lent-behind outcome
-answer-stated {sheet} {before} rule t = record {
-  whole = rw (t .length-is, t .lent-is) (choice (written (answer rule sheet)) before _ (too-short before));
-  fits = t .fits;
-}
+unfolding zeros
+stated p w q e = text-left e (p .length-is) (rw (w, q, p .same-words, p .same-queue, p .out-is))
