@@ -21,9 +21,6 @@ use Rattle.checker.specs.Lengths.{long}
 use Rattle.checker.specs.Checked.{lent, refusal-text, Checked, text-outcome, Stated}
 use Rattle.checker.proofs.Refused.{read-bounded}
 
-pub digits-short : (n : ℕ) → n ≤ 65537 → length (digits n) ≤ 5
-digits-short n h = length-digits n (omega arith)
-
 -- `X number line`, as it is written part by part
 pub refusal-spelled : (number line : ℕ) → ((((letter-X ∷ []) ++ (tab ∷ digits number)) ++ (tab ∷ digits line)) ++ (line-feed ∷ [])) ≡ refusal-text number line
 unfolding refusal-text written behind-tabs
@@ -33,10 +30,10 @@ pub refusal-wrote : {l l′ : List ℕ} {r : ℕ} (number line : ℕ) → Wrote 
     → Wrote l 0 (refusal-text number line) l′ r
 refusal-wrote {l} {l′} {r} number line w = subst (λ (t : Bytes). Wrote l 0 t l′ r) (refusal-spelled number line) w
 
-refusal-length : (number line : ℕ) → number ≤ 9 → line ≤ 65537 → length (refusal-text number line) ≤ 14
+refusal-length : (number line : ℕ) → length (refusal-text number line) ≤ 14
 unfolding refusal-text written behind-tabs
-refusal-length number line h k =
-    omega (arith, length-append (digits number) (tab ∷ (digits line ++ (line-feed ∷ []))), length-append (digits line) (line-feed ∷ []), digits-short number (omega arith), digits-short line k)
+refusal-length number line =
+    omega (arith, length-append (digits number) (tab ∷ (digits line ++ (line-feed ∷ []))), length-append (digits line) (line-feed ∷ []), length-digits number, length-digits line)
 
 pub laid-length : (text report : List ℕ) → length text ≤ length (laid text report)
 unfolding laid
@@ -131,12 +128,12 @@ module _ {rule : Rule} {sheet : Bytes} {before after : Lent} {r : Answer} (c : C
     pub room : report-size ≤ length (after .report)
     room = rw (turned .left) (long (before .report) (before .words) (before .queue) (turned .long) .0)
 
-    pub texted-refusal : {report : List ℕ} {n : ℕ} → number ≤ 9 → line ≤ 65537 → Wrote (after .report) 0 (refusal-text number line) report n
+    pub texted-refusal : {report : List ℕ} {n : ℕ} → Wrote (after .report) 0 (refusal-text number line) report n
         → Stated (written (answer rule sheet)) before (lent report (after .words) (after .queue)) n
     unfolding refusal-text
-    texted-refusal {report} {n} h k w =
+    texted-refusal {report} {n} w =
         let t = turned in
-        let short : length (refusal-text number line) ≤ 14 = refusal-length number line h k in
+        let short : length (refusal-text number line) ≤ 14 = refusal-length number line in
         let big = room in
         let long : n ≡ length (refusal-text number line) = omega (arith, w .next) in
         let left : lent report (after .words) (after .queue) ≡ record { report = laid (refusal-text number line) (before .report); words = zeros (before .words); queue = zeros (before .queue) } =

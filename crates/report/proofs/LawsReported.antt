@@ -9,14 +9,12 @@ use Rattle.lists.specs.Sets.{Wrote, then}
 use Rattle.paper.specs.Limits.{report-size}
 use Rattle.paper.specs.Text.{Name}
 use Rattle.paper.specs.Sheet.{Sheet}
-use Rattle.paper.specs.Report.{Line, first-list, missing-allocations, find-errors, faults, lines-text, report-text}
+use Rattle.paper.specs.Report.{Line, first-list, missing-allocations, find-errors, faults, lines-text, report-text, header-text, names-lines}
 use Rattle.paper.specs.Answer.{said-of, answer-of, report-of}
 use Rattle.paper.specs.declared.Rule.{Rule}
 use Rattle.paper.specs.declared.Answer.the-variants.{Accepted, Faulty}
-use Rattle.report.specs.Lines.{header-text}
 use Rattle.steps.specs.Faults.{some-in}
 use Rattle.report.specs.Passes.{noted-list, noted-size, Noted}
-use Rattle.report.specs.Missing.{names-lines}
 use Rattle.report.specs.Reported.{Reported, wrote-laid}
 use Rattle.report.specs.declared.Pass.the-variants.{Count, Write}
 use Rattle.report.proofs.LawsPasses.{noted-wrote}
@@ -24,7 +22,7 @@ use Rattle.report.proofs.LawsPasses.{noted-wrote}
 -- the whole text
 wrote-report : (rule : Rule) (ls : List Line) {l l₁ l₂ : List ℕ} {j k : ℕ} → Wrote l 0 (header-text rule (length ls)) l₁ j → Wrote l₁ j (lines-text ls) l₂ k
     → Wrote l 0 (report-text rule ls) l₂ k
-unfolding report-text header-text
+unfolding report-text
 wrote-report rule ls p q = then p q
 
 -- what is said of lines, and of none

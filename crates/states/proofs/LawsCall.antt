@@ -9,7 +9,7 @@ use Rattle.lists.specs.Sets.{Wrote}
 use Rattle.paper.specs.Text.{Bytes, Name}
 use Rattle.paper.specs.Sheet.{Sheet}
 use Rattle.paper.specs.Limits.{report-size}
-use Rattle.paper.specs.Report.{missing-allocations}
+use Rattle.paper.specs.Report.{by-block, names-lines, missing-allocations}
 use Rattle.paper.specs.Answer.{too-short, laid, zeros}
 use Rattle.paper.specs.declared.Rule.{Rule}
 use Rattle.layout.specs.Layout.{blocks-word, run-words}
@@ -19,14 +19,14 @@ use Rattle.sheet.specs.declared.Loading as Loading
 use Rattle.sheet.specs.declared.Loading.the-variants as loading
 use Rattle.steps.specs.Faults.{some-in}
 use Rattle.runs.specs.Stands.{Analysed, analysed-sheet, analysed-loaded, analysed-state}
-use Rattle.report.specs.Missing.{names-lines, step-lines, missing-lines, MissingOf}
+use Rattle.report.specs.Missing.{step-lines, missing-lines, MissingOf}
 use Rattle.report.specs.declared.Missing.{Missing}
 use Rattle.report.specs.declared.Missing.the-variants.{Found}
 use Rattle.report.specs.Reported.{wrote-laid}
 use Rattle.checker.specs.Checked.{lent, Stated}
 use Rattle.checker.proofs.Laws.{loads-sheet, refuses-sheet}
 use Rattle.checker.proofs.Texts.{text-left}
-use Rattle.states.specs.EntryStates.{blocks-text, unless-missing, states-after, entry-states}
+use Rattle.states.specs.EntryStates.{block-text, unless-missing, states-after, entry-states}
 use Rattle.states.specs.Stated.{longest-text, Written, HoldsStates}
 
 -- ---- the text of a sheet
@@ -39,13 +39,13 @@ refused-none rule l e = rw (refuses-sheet l e)
 
 -- a sheet that was loaded has what its words say
 module _ {sheet : Bytes} {before after : List ℕ} {r : Loading.Loading} (rule : Rule) (l : Load sheet before after r) (e : r ≡ loading.Loaded) where
-  text-loaded : entry-states rule sheet ≡ unless-missing (missing-allocations (sheet-of after)) (blocks-text rule (sheet-of after) 0 (getD after blocks-word 0))
+  text-loaded : entry-states rule sheet ≡ unless-missing (missing-allocations (sheet-of after)) (by-block (block-text rule (sheet-of after)) 0 (getD after blocks-word 0))
   unfolding entry-states states-after sheet-of
   text-loaded =
       let s = loads-sheet l e in
-      rw (s .1) (ap (λ (S : Sheet). unless-missing (missing-allocations S) (blocks-text rule S 0 (S .blocks))) (sym (unfold sheet-of in l .meaning (s .0) (s .1) .0)))
+      rw (s .1) (ap (λ (S : Sheet). unless-missing (missing-allocations S) (by-block (block-text rule S) 0 (S .blocks))) (sym (unfold sheet-of in l .meaning (s .0) (s .1) .0)))
 
-  pub text-full : missing-allocations (sheet-of after) ≡ [] → entry-states rule sheet ≡ blocks-text rule (sheet-of after) 0 (getD after blocks-word 0)
+  pub text-full : missing-allocations (sheet-of after) ≡ [] → entry-states rule sheet ≡ by-block (block-text rule (sheet-of after)) 0 (getD after blocks-word 0)
   unfolding unless-missing
   text-full m = text-loaded ∙ rw m
 
@@ -75,7 +75,7 @@ module _ {rule : Rule} {words queue words′ queue′ : List ℕ} (loads : Loade
     marks = λ b h. rw (analysed-sheet loads a) (a .marks b (omega (arith, same-blocks)));
   }
 
-  pub same-text : blocks-text rule (sheet-of words′) 0 (getD words′ blocks-word 0) ≡ blocks-text rule (sheet-of words) 0 (getD words blocks-word 0)
+  pub same-text : by-block (block-text rule (sheet-of words′)) 0 (getD words′ blocks-word 0) ≡ by-block (block-text rule (sheet-of words)) 0 (getD words blocks-word 0)
   same-text = rw (analysed-sheet loads a, same-blocks)
 
 -- ---- what was written
