@@ -11,7 +11,7 @@ use Rattle.paper.specs.Limits.{report-size, max-steps}
 use Rattle.paper.specs.Refusals.{Reading, loaded, refused, read, step-count}
 use Rattle.paper.specs.Runs.{checked-from}
 use Rattle.paper.specs.Report.{Line, report-text, missing-allocations, faults}
-use Rattle.paper.specs.Answer.{Said, accepted, faulty, turned-away, said-of, said-after, answer, Lent, too-short, laid, zeros, Outcome, outcome-of, outcome}
+use Rattle.paper.specs.Answer.{Said, said-of, said-after, answer, Lent, too-short, zeros, answer-of, report-of, Outcome, outcome-of, outcome}
 use Rattle.paper.specs.declared.Rule.{Rule}
 use Rattle.paper.specs.declared.Answer.{Answer}
 use Rattle.paper.specs.declared.Answer.the-variants.{Refused}
@@ -26,32 +26,22 @@ use Rattle.runs.specs.Stands.{Analysed, analysed-sheet, analysed-loaded}
 use Rattle.report.specs.Missing.{missing-lines, MissingOf}
 use Rattle.report.specs.declared.Missing.{Missing}
 use Rattle.report.specs.declared.Missing.the-variants.{Nothing}
-use Rattle.report.specs.Reported.{Checkable, answered, Reported}
-use Rattle.checker.specs.Checked.{Few, lent, answer-of, report-of, AnswerWithin, Answered, Checked, verdict-of, rule-of, Exported}
+use Rattle.report.specs.Reported.{Checkable, Reported}
+use Rattle.checker.specs.Checked.{Few, lent, AnswerWithin, Answered, Checked, verdict-of, rule-of, Exported}
 use Rattle.checker.specs.declared.Verdict.{Verdict}
 use Rattle.checker.proofs.Refused.{read-bounded}
 
--- what `report` answers and writes is what is said of the lines
-said-answer : (rule : Rule) (ls : List Line) → answered rule ls ≡ answer-of (said-of rule ls)
-unfolding answered answer-of said-of
-said-answer rule [] = refl
-said-answer rule (l ∷ ls) = refl
-
-said-report : (rule : Rule) (ls : List Line) (report : List ℕ) → laid (report-text rule ls) report ≡ report-of (said-of rule ls) report
-unfolding report-of said-of
-said-report rule [] report = refl
-said-report rule (l ∷ ls) report = refl
-
-said-within : (rule : Rule) (ls : List Line) → length (report-text rule ls) ≤ report-size → AnswerWithin (answered rule ls)
-unfolding answered
+-- what `report` answers and writes is said of the lines
+said-within : (rule : Rule) (ls : List Line) → length (report-text rule ls) ≤ report-size → AnswerWithin (answer-of (said-of rule ls))
+unfolding said-of answer-of
 said-within rule [] h = h
 said-within rule (l ∷ ls) h = h
 
 pub reported : {rule : Rule} {ls : List Line} {report words queue report′ words′ queue′ : List ℕ} {r : Answer} → Reported rule ls report r report′
     → length words′ ≡ length words → length queue′ ≡ length queue → Answered (said-of rule ls) report words queue report′ words′ queue′ r
-reported {rule} {ls} {report} p w q = record {
-  answer-is = p .answer ∙ said-answer rule ls;
-  report-is = p .text ∙ said-report rule ls report;
+reported {rule} {ls} p w q = record {
+  answer-is = p .answer;
+  report-is = p .text;
   same-words = w;
   same-queue = q;
   within = subst AnswerWithin (sym (p .answer)) (said-within rule ls (p .fits));
@@ -144,20 +134,12 @@ unfolding outcome
 turned-short rule sheet before e = record { whole = rw e; within = (omega arith, omega arith) }
 
 -- any other answer leaves the scratch zero
-said-outcome : (said : Said) (before : Lent)
-    → _≡_ {A = Outcome}
-    (record { answer = answer-of said; lent = record { report = report-of said (before .report); words = zeros (before .words); queue = zeros (before .queue) } }) (outcome-of said before)
-unfolding answer-of report-of outcome-of
-said-outcome (accepted text) before = refl
-said-outcome (faulty text) before = refl
-said-outcome (turned-away number line) before = refl
-
 pub checked : {rule : Rule} {sheet : Bytes} {report words queue report′ words₁ queue₁ words′ queue′ : List ℕ} {r : Answer}
     → Answered (answer rule sheet) report words queue report′ words₁ queue₁ r → words′ ≡ replicate (length words₁) 0 → queue′ ≡ replicate (length queue₁) 0
     → too-short (lent report words queue) ≡ false → Checked rule sheet (lent report words queue) (lent report′ words′ queue′) r
-unfolding outcome zeros
-checked {rule} {sheet} {report} {words} {queue} a w q e = record {
-  whole = rw (e, w, q, a .same-words, a .same-queue, a .answer-is, a .report-is) (unfold zeros in said-outcome (answer rule sheet) (lent report words queue));
+unfolding outcome outcome-of zeros
+checked a w q e = record {
+  whole = rw (e, w, q, a .same-words, a .same-queue, a .answer-is, a .report-is);
   within = a .within;
 }
 

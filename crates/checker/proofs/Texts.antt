@@ -6,23 +6,20 @@ use mathlib.Core.List.{List, [], _∷_, _++_, append-assoc}
 use Prim.Native.Nat.{ℕ, _≤_}
 use native.Mathlib.Omega.{arith}
 use lib.ListN.{length, drop, length-append}
-use Rattle.lists.specs.Sets.{Wrote, length-wrote}
+use Rattle.lists.specs.Sets.{Wrote}
 use Rattle.fields.specs.Spelling.{length-digits}
 use Rattle.paper.specs.Text.{Bytes, tab, line-feed, digits}
 use Rattle.paper.specs.Limits.{report-size}
 use Rattle.paper.specs.Refusals.{Reading, loaded, refused, read}
 use Rattle.paper.specs.Report.{Line, behind-tabs, faults}
-use Rattle.paper.specs.Answer.{Said, accepted, faulty, turned-away, said-of, said-after, answer, letter-X, written, Lent, too-short, laid, zeros, Outcome, outcome-of, outcome}
+use Rattle.paper.specs.Answer.{Said, accepted, faulty, turned-away, said-of, said-after, answer, letter-X, written, Lent, too-short, laid, zeros, answer-of, report-of, Outcome, outcome-of, outcome}
 use Rattle.paper.specs.declared.Rule.{Rule}
 use Rattle.paper.specs.declared.Answer.{Answer}
 use Rattle.paper.specs.declared.Answer.the-variants.{Accepted, Faulty, Refused}
 use Rattle.report.specs.Reported.{wrote-laid}
 use Rattle.checker.specs.Lengths.{long}
-use Rattle.checker.specs.Checked.{lent, refusal-text, Checked, text-of, lent-behind, Texted}
+use Rattle.checker.specs.Checked.{lent, refusal-text, Checked, text-outcome, Stated}
 use Rattle.checker.proofs.Refused.{read-bounded}
-
-pub digits-short : (n : ℕ) → n ≤ 65537 → length (digits n) ≤ 5
-digits-short n h = length-digits n (omega arith)
 
 -- `X number line`, as it is written part by part
 pub refusal-spelled : (number line : ℕ) → ((((letter-X ∷ []) ++ (tab ∷ digits number)) ++ (tab ∷ digits line)) ++ (line-feed ∷ [])) ≡ refusal-text number line
@@ -33,14 +30,25 @@ pub refusal-wrote : {l l′ : List ℕ} {r : ℕ} (number line : ℕ) → Wrote 
     → Wrote l 0 (refusal-text number line) l′ r
 refusal-wrote {l} {l′} {r} number line w = subst (λ (t : Bytes). Wrote l 0 t l′ r) (refusal-spelled number line) w
 
-refusal-length : (number line : ℕ) → number ≤ 9 → line ≤ 65537 → length (refusal-text number line) ≤ 14
+refusal-length : (number line : ℕ) → length (refusal-text number line) ≤ 14
 unfolding refusal-text written behind-tabs
-refusal-length number line h k =
-    omega (arith, length-append (digits number) (tab ∷ (digits line ++ (line-feed ∷ []))), length-append (digits line) (line-feed ∷ []), digits-short number (omega arith), digits-short line k)
+refusal-length number line =
+    omega (arith, length-append (digits number) (tab ∷ (digits line ++ (line-feed ∷ []))), length-append (digits line) (line-feed ∷ []), length-digits number, length-digits line)
 
 pub laid-length : (text report : List ℕ) → length text ≤ length (laid text report)
 unfolding laid
 laid-length text report = omega (arith, length-append text (drop (length text) report))
+
+-- refusal 1 changes nothing
+pub short-outcome : (text : Bytes) (before : Lent) → too-short before ≡ true → Stated text before before 0
+unfolding text-outcome
+short-outcome text before e = record { whole = rw e; fits = omega arith }
+
+-- any other answer leaves a text, and the scratch zero
+pub text-left : {text : Bytes} {before after : Lent} {n : ℕ} → too-short before ≡ false → n ≡ length text
+    → after ≡ record { report = laid text (before .report); words = zeros (before .words); queue = zeros (before .queue) } → Stated text before after n
+unfolding text-outcome
+text-left {text} {before} s k a = record { whole = rw (s, k, a); fits = rw (a, k) (laid-length text (before .report)) }
 
 -- bytes are never refused by number 1
 said-number : (rule : Rule) (sheet : Bytes) (number line : ℕ) → answer rule sheet ≡ turned-away number line → 2 ≤ number
@@ -61,38 +69,30 @@ module _ {rule : Rule} {sheet : Bytes} {before after : Lent} {r : Answer} (c : C
   answer-told o e = (ap (λ (x : Outcome). x .answer) (c .whole ∙ e), ap (λ (x : Outcome). x .lent) (c .whole ∙ e))
 
   -- an answer with a report
-  pub texted : (n : ℕ) → (r ≡ Accepted n) ⊎ (r ≡ Faulty n) → Texted rule sheet before after n
-  unfolding outcome outcome-of text-of lent-behind written
+  pub texted : (n : ℕ) → (r ≡ Accepted n) ⊎ (r ≡ Faulty n) → Stated (written (answer rule sheet)) before after n
+  unfolding outcome outcome-of answer-of report-of written
   texted n e = at (too-short before) refl (answer rule sheet) refl
     where
       not-refused : {Q : Type 0} {k l : ℕ} → r ≡ Refused k l → Q
       not-refused f = ⊎-elim (λ h. let z : _≡_ {A = ℕ} 0 1 = cc in absurd (omega arith)) (λ h. let z : _≡_ {A = ℕ} 0 1 = cc in absurd (omega arith)) e
 
-      with-text : (text : Bytes) → too-short before ≡ false → written (answer rule sheet) ≡ text → n ≡ length text
-          → after ≡ record { report = laid text (before .report); words = zeros (before .words); queue = zeros (before .queue) } → Texted rule sheet before after n
-      with-text text s t k a = record {
-        length-is = rw (s, t) k;
-        lent-is = rw (s, t) a;
-        fits = rw (a, k) (laid-length text (before .report));
-      }
-
-      at : (b : Bool) → too-short before ≡ b → (said : Said) → answer rule sheet ≡ said → Texted rule sheet before after n
+      at : (b : Bool) → too-short before ≡ b → (said : Said) → answer rule sheet ≡ said → Stated (written (answer rule sheet)) before after n
       at true s said t = not-refused (answer-told (record { answer = Refused 1 0; lent = before }) (rw s) .0)
       at false s (accepted text) t =
           let p = answer-told (outcome-of (accepted text) before) (rw (s, t)) in
-          with-text text s (ap written t) (⊎-elim (λ h. (cc)) (λ h. let z : _≡_ {A = ℕ} 0 1 = cc in absurd (omega arith)) e) (p .1)
+          rw t (text-left {text = text} s (⊎-elim (λ h. (cc)) (λ h. let z : _≡_ {A = ℕ} 0 1 = cc in absurd (omega arith)) e) (p .1))
       at false s (faulty text) t =
           let p = answer-told (outcome-of (faulty text) before) (rw (s, t)) in
-          with-text text s (ap written t) (⊎-elim (λ h. let z : _≡_ {A = ℕ} 0 1 = cc in absurd (omega arith)) (λ h. (cc)) e) (p .1)
+          rw t (text-left {text = text} s (⊎-elim (λ h. let z : _≡_ {A = ℕ} 0 1 = cc in absurd (omega arith)) (λ h. (cc)) e) (p .1))
       at false s (turned-away k l) t = not-refused (answer-told (outcome-of (turned-away k l) before) (rw (s, t)) .0)
 
   -- refusal 1 changes nothing, and no other has its number
-  pub texted-short : (line : ℕ) → r ≡ Refused 1 line → Texted rule sheet before after 0
-  unfolding outcome outcome-of text-of lent-behind
+  pub texted-short : (line : ℕ) → r ≡ Refused 1 line → Stated (written (answer rule sheet)) before after 0
+  unfolding outcome outcome-of answer-of report-of
   texted-short line e = at (too-short before) refl (answer rule sheet) refl
     where
-      at : (b : Bool) → too-short before ≡ b → (said : Said) → answer rule sheet ≡ said → Texted rule sheet before after 0
-      at true s said t = let p = answer-told (record { answer = Refused 1 0; lent = before }) (rw s) in record { length-is = rw s; lent-is = rw s (p .1); fits = omega arith }
+      at : (b : Bool) → too-short before ≡ b → (said : Said) → answer rule sheet ≡ said → Stated (written (answer rule sheet)) before after 0
+      at true s said t = let p = answer-told (record { answer = Refused 1 0; lent = before }) (rw s) in rw (p .1) (short-outcome (written (answer rule sheet)) before s)
       at false s (accepted text) t = let p = answer-told (outcome-of (accepted text) before) (rw (s, t)) .0 in let z : _≡_ {A = ℕ} 0 1 = cc in absurd (omega arith)
       at false s (faulty text) t = let p = answer-told (outcome-of (faulty text) before) (rw (s, t)) .0 in let z : _≡_ {A = ℕ} 0 1 = cc in absurd (omega arith)
       at false s (turned-away k l) t =
@@ -108,7 +108,7 @@ module _ {rule : Rule} {sheet : Bytes} {before after : Lent} {r : Answer} (c : C
       pub left : after ≡ record { report = before .report; words = zeros (before .words); queue = zeros (before .queue) }
 
     pub turned : Turned
-    unfolding outcome outcome-of
+    unfolding outcome outcome-of answer-of report-of
     turned = at (too-short before) refl (answer rule sheet) refl
       where
         at : (b : Bool) → too-short before ≡ b → (said : Said) → answer rule sheet ≡ said → Turned
@@ -128,17 +128,14 @@ module _ {rule : Rule} {sheet : Bytes} {before after : Lent} {r : Answer} (c : C
     pub room : report-size ≤ length (after .report)
     room = rw (turned .left) (long (before .report) (before .words) (before .queue) (turned .long) .0)
 
-    pub texted-refusal : {report : List ℕ} {n : ℕ} → number ≤ 9 → line ≤ 65537 → Wrote (after .report) 0 (refusal-text number line) report n
-        → Texted rule sheet before (lent report (after .words) (after .queue)) n
-    unfolding text-of lent-behind refusal-text
-    texted-refusal {report} {n} h k w =
+    pub texted-refusal : {report : List ℕ} {n : ℕ} → Wrote (after .report) 0 (refusal-text number line) report n
+        → Stated (written (answer rule sheet)) before (lent report (after .words) (after .queue)) n
+    unfolding refusal-text
+    texted-refusal {report} {n} w =
         let t = turned in
-        let short : length (refusal-text number line) ≤ 14 = refusal-length number line h k in
+        let short : length (refusal-text number line) ≤ 14 = refusal-length number line in
         let big = room in
-        record {
-          length-is = rw (t .long, t .said) (unfold refusal-text in (omega (arith, w .next)));
-          lent-is =
-              rw (t .long, t .said)
-              (unfold refusal-text in (cc (wrote-laid w (omega (arith, w .next)), ap (λ (x : Lent). x .report) (t .left), ap (λ (x : Lent). x .words) (t .left), ap (λ (x : Lent). x .queue) (t .left))));
-          fits = omega (arith, w .next, length-wrote w);
-        }
+        let long : n ≡ length (refusal-text number line) = omega (arith, w .next) in
+        let left : lent report (after .words) (after .queue) ≡ record { report = laid (refusal-text number line) (before .report); words = zeros (before .words); queue = zeros (before .queue) } =
+        cc (wrote-laid w (omega (arith, w .next)), ap (λ (x : Lent). x .report) (t .left), ap (λ (x : Lent). x .words) (t .left), ap (λ (x : Lent). x .queue) (t .left)) in
+        rw (t .said) (text-left {text = refusal-text number line} (t .long) long left)

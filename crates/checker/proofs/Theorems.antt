@@ -6,13 +6,13 @@ use mathlib.Core.Bool.{Bool, true, false}
 use Prim.Native.Nat.{ℕ}
 use native.Mathlib.Omega.{arith}
 use Rattle.paper.specs.Text.{Bytes}
-use Rattle.paper.specs.Answer.{Said, accepted, faulty, turned-away, answer, Lent, too-short, Outcome, outcome-of, outcome}
+use Rattle.paper.specs.Answer.{Said, accepted, faulty, turned-away, answer, Lent, too-short, answer-of, Outcome, outcome-of, outcome}
 use Rattle.paper.specs.declared.Rule.{Rule}
 use Rattle.paper.specs.declared.Rule.the-variants.{House}
 use Rattle.paper.specs.declared.Answer.{Answer}
 use Rattle.paper.specs.declared.Answer.the-variants.{Accepted, Refused}
 use Rattle.walks.specs.Theorems.{AcceptedBytes, accepted-bytes}
-use Rattle.checker.specs.Checked.{Checked, Texted, Exported}
+use Rattle.checker.specs.Checked.{Checked, TextOutcome, Stated, Exported}
 use Rattle.checker.specs.declared.Verdict.{Verdict}
 
 pub check-one-outcome : {rule : Rule} {sheet : Bytes} {before after after′ : Lent} {r r′ : Answer} → Checked rule sheet before after r → Checked rule sheet before after′ r′
@@ -21,9 +21,12 @@ check-one-outcome p q =
     let e = p .whole ∙ sym (q .whole) in
     (ap (λ (o : Outcome). o .answer) e, ap (λ (o : Outcome). o .lent) e)
 
-pub answer-text-one-outcome : {rule : Rule} {sheet : Bytes} {before after after′ : Lent} {r r′ : ℕ} → Texted rule sheet before after r → Texted rule sheet before after′ r′
+-- `answer_text`, `entry_states` and `text_of`, each with its text
+pub text-one-outcome : {text : Bytes} {before after after′ : Lent} {r r′ : ℕ} → Stated text before after r → Stated text before after′ r′
     → (r ≡ r′) × (after ≡ after′)
-answer-text-one-outcome p q = (p .length-is ∙ sym (q .length-is), p .lent-is ∙ sym (q .lent-is))
+text-one-outcome p q =
+    let e = p .whole ∙ sym (q .whole) in
+    (ap (λ (o : TextOutcome). o .text-length) e, ap (λ (o : TextOutcome). o .buffers) e)
 
 pub export-one-outcome : {house : Bool} {sheet : Bytes} {before after after′ : Lent} {r r′ : Verdict} → Exported house sheet before after r → Exported house sheet before after′ r′
     → (r ≡ r′) × (after ≡ after′)
@@ -31,7 +34,7 @@ export-one-outcome p q = (p .verdict-is ∙ sym (q .verdict-is), p .lent-is ∙ 
 
 -- an accepted call answers what the paper says of the bytes
 pub accepted-said : {rule : Rule} {sheet : Bytes} {before after : Lent} {n : ℕ} → Checked rule sheet before after (Accepted n) → (text : Bytes) × (answer rule sheet ≡ accepted text)
-unfolding outcome outcome-of
+unfolding outcome outcome-of answer-of
 accepted-said {rule} {sheet} {before} {after} {n} c = at (too-short before) refl (answer rule sheet) refl
   where
     told : (o : Outcome) → outcome rule sheet before ≡ o → Accepted n ≡ o .answer

@@ -1,13 +1,13 @@
 -- What a call leaves behind, against the paper's `outcome`: the answer and the three lent buffers in one equation.
 use mathlib.Core.Path.{_≡_}
 use mathlib.Core.Bool.{Bool, true, false, cond}
-use mathlib.Core.List.{List, []}
+use mathlib.Core.List.{List}
 use Prim.Native.Nat.{ℕ, _+_, _≤_}
 use lib.ListN.{length}
 use Rattle.paper.specs.Text.{Bytes}
 use Rattle.paper.specs.Limits.{report-size, max-sheet, max-steps}
 use Rattle.paper.specs.Refusals.{step-count}
-use Rattle.paper.specs.Answer.{Said, accepted, faulty, turned-away, answer, written, Lent, too-short, laid, zeros, Outcome, outcome}
+use Rattle.paper.specs.Answer.{Said, turned-away, written, Lent, too-short, laid, zeros, answer-of, report-of, Outcome, outcome}
 use Rattle.sheet.specs.Loaded.{sheet-of}
 use Rattle.paper.specs.declared.Rule.{Rule}
 use Rattle.paper.specs.declared.Rule.the-variants.{Old, House}
@@ -25,17 +25,6 @@ refusal-text number line = written (turned-away number line)
 
 abbrev pub lent : List ℕ → List ℕ → List ℕ → Lent
 lent report words queue = record { report = report; words = words; queue = queue }
-
--- the answer that is returned for what is said, and the report behind it
-unfoldable pub answer-of : Said → Answer
-answer-of (accepted text) = Accepted (length text)
-answer-of (faulty text) = Faulty (length text)
-answer-of (turned-away number line) = Refused number line
-
-unfoldable pub report-of : Said → List ℕ → List ℕ
-report-of (accepted text) report = laid text report
-report-of (faulty text) report = laid text report
-report-of (turned-away number line) report = report
 
 -- the numbers of an answer keep their bounds
 abbrev pub AnswerWithin : Answer → Type 0
@@ -56,19 +45,21 @@ pub record Checked (rule : Rule) (sheet : Bytes) (before after : Lent) (r : Answ
   pub whole : _≡_ {A = Outcome} (record { answer = r; lent = after }) (outcome rule sheet before)
   pub within : AnswerWithin r
 
--- what a program writes of the answer: nothing where refusal 1 is given
-unfoldable pub text-of : Rule → Bytes → Lent → Bytes
-text-of rule sheet before = cond (too-short before) [] (written (answer rule sheet))
+-- of a call that leaves a text: the length that is returned, and the lent buffers afterwards
+pub record TextOutcome : Type 0 where
+  pub text-length : ℕ
+  pub buffers : Lent
 
--- the lent buffers behind the text: refusal 1 changes nothing
-unfoldable pub lent-behind : Rule → Bytes → Lent → Lent
-lent-behind rule sheet before =
-    cond (too-short before) before
-    (record { report = laid (written (answer rule sheet)) (before .report); words = zeros (before .words); queue = zeros (before .queue) })
+-- refusal 1 changes nothing, and the length is 0; else the text stands at the start of the first buffer, later bytes keep their
+-- values, and the scratch is all zero
+unfoldable pub text-outcome : Bytes → Lent → TextOutcome
+text-outcome text before =
+    cond (too-short before) (record { text-length = 0; buffers = before })
+    (record { text-length = length text; buffers = record { report = laid text (before .report); words = zeros (before .words); queue = zeros (before .queue) } })
 
-pub record Texted (rule : Rule) (sheet : Bytes) (before after : Lent) (r : ℕ) : Type 0 where
-  pub length-is : r ≡ length (text-of rule sheet before)
-  pub lent-is : after ≡ lent-behind rule sheet before
+-- the whole of a call that leaves a text
+pub record Stated (text : Bytes) (before after : Lent) (r : ℕ) : Type 0 where
+  pub whole : _≡_ {A = TextOutcome} (record { text-length = r; buffers = after }) (text-outcome text before)
   pub fits : r ≤ length (after .report)
 
 -- over the C interface: 0 accepted, 1 faulty, 2 refused; the report's length; the refusal's number and line

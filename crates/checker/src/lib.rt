@@ -7,7 +7,7 @@ ghost use Rattle.paper.specs.Limits.{report-size, words-size, queue-size};
 ghost use Rattle.paper.specs.Report.{faults};
 ghost use Rattle.paper.specs.Answer as paper-answer;
 ghost use Rattle.sheet.specs.Loaded.{sheet-of, Loaded};
-ghost use Rattle.checker.specs.Checked.{lent, Few, refusal-text, Answered, Checked, Texted, verdict-of, rule-of, Exported};
+ghost use Rattle.checker.specs.Checked.{lent, Few, refusal-text, Answered, Checked, Stated, verdict-of, rule-of, Exported};
 use layout::QUEUE_SIZE;
 use layout::REPORT_SIZE;
 use layout::WORDS_SIZE;
@@ -109,7 +109,7 @@ pub fn answer_text(
     words: &mut [u16],
     queue: &mut [u8],
 ) -> usize
-    ensures { λ r. ⌜ Texted rule (now (sheet .entry)) (lent (now (report .entry)) (now (words .entry)) (now (queue .entry))) (lent (now (report .exit)) (now (words .exit)) (now (queue .exit))) r ⌝ }
+    ensures { λ r. ⌜ Stated (paper-answer.written (paper-answer.answer rule (now (sheet .entry)))) (lent (now (report .entry)) (now (words .entry)) (now (queue .entry))) (lent (now (report .exit)) (now (words .exit)) (now (queue .exit))) r ⌝ }
 {
     let said = check(rule, sheet, report, words, queue);
     match said {

@@ -53,10 +53,10 @@ module _ (v : ℕ) where
   digits-five l = rw (le-leb 10000 v l, le-leb 1000 v (omega arith), le-leb 100 v (omega arith), le-leb 10 v (omega arith))
 
   -- a fact of a number and its digits, by their length
-  by-length : (P : Bytes → Type 0) → v < 100000
+  by-length : (P : Bytes → Type 0)
       → (v < 10 → P (one v)) → (10 ≤ v → v < 100 → P (two v)) → (100 ≤ v → v < 1000 → P (three v)) → (1000 ≤ v → v < 10000 → P (four v)) → (10000 ≤ v → P (five v))
       → P (digits v)
-  by-length P h p1 p2 p3 p4 p5 =
+  by-length P p1 p2 p3 p4 p5 =
       by-order v 10
       (λ a. subst⁻¹ P (digits-one a) (p1 a))
       λ a. by-order v 100
@@ -97,7 +97,7 @@ lead x y e h = ne-eqb (48 + x) 48 (omega arith)
 pub number-of-digits : (v : ℕ) → v < 100000 → number-of (digits v) ≡ some v
 unfolding one two three four five all-digits leading-zero value-from
 number-of-digits v h =
-    by-length v (λ f. number-of f ≡ some v) h
+    by-length v (λ f. number-of f ≡ some v)
     (λ b. number-is (one v) v (omega arith) (omega arith) (rw (digit-of v)) refl (omega arith))
     (λ a b.
     let top : v / 10 % 10 ≡ v / 10 = omega arith in
@@ -218,9 +218,9 @@ digits-of-number f v e = one-spelling (number e) (number (number-of-digits v (nu
 
 -- the room that a number takes
 module _ (v : ℕ) where
-  pub length-digits : v < 100000 → length (digits v) ≤ 5
+  pub length-digits : length (digits v) ≤ 5
   unfolding one two three four five
-  length-digits h = by-length v (λ f. length f ≤ 5) h (λ a. omega arith) (λ a b. omega arith) (λ a b. omega arith) (λ a b. omega arith) λ a. omega arith
+  length-digits = by-length v (λ f. length f ≤ 5) (λ a. omega arith) (λ a b. omega arith) (λ a b. omega arith) (λ a b. omega arith) λ a. omega arith
 
   pub length-one : v < 10 → length (digits v) ≡ 1
   unfolding one

@@ -58,19 +58,28 @@ laid text buffer = text ++ drop (length text) buffer
 unfoldable pub zeros : List ℕ → List ℕ
 zeros buffer = replicate (length buffer) 0
 
--- the answer as it is returned, and the buffers afterwards
+-- the answer as it is returned
+unfoldable pub answer-of : Said → Answer
+answer-of (accepted text) = Accepted (length text)
+answer-of (faulty text) = Faulty (length text)
+answer-of (turned-away number line) = Refused number line
+
+-- "A refusal leaves the report as it was; otherwise the report text stands at its start"
+unfoldable pub report-of : Said → List ℕ → List ℕ
+report-of (accepted text) report = laid text report
+report-of (faulty text) report = laid text report
+report-of (turned-away number line) report = report
+
+-- the answer that is returned, and the buffers afterwards
 pub record Outcome : Type 0 where
   pub answer : Answer
   pub lent : Lent
 
+-- "Any other answer leaves the scratch all zero"
 unfoldable pub outcome-of : Said → Lent → Outcome
-outcome-of (accepted text) lent =
-    record { answer = Accepted (length text); lent = record { report = laid text (lent .report); words = zeros (lent .words); queue = zeros (lent .queue) } }
-outcome-of (faulty text) lent =
-    record { answer = Faulty (length text); lent = record { report = laid text (lent .report); words = zeros (lent .words); queue = zeros (lent .queue) } }
-outcome-of (turned-away number line) lent =
-    record { answer = Refused number line; lent = record { report = lent .report; words = zeros (lent .words); queue = zeros (lent .queue) } }
+outcome-of said lent =
+    record { answer = answer-of said; lent = record { report = report-of said (lent .report); words = zeros (lent .words); queue = zeros (lent .queue) } }
 
--- "First 1": it changes nothing
+-- "First 1"; "Refusal 1 changes nothing"
 unfoldable pub outcome : Rule → Bytes → Lent → Outcome
 outcome rule sheet lent = cond (too-short lent) (record { answer = Refused 1 0; lent = lent }) (outcome-of (answer rule sheet) lent)

@@ -27,20 +27,21 @@ inst-of (change inst k from to) = inst
 inst-of (operation inst uses defs) = inst
 inst-of (safepoint inst slots) = inst
 
-unfoldable pub line-of : ℕ → ℕ → Step → Option Fault → List Line
-line-of b place x none = []
-line-of b place x (some fault) = record { block = b; place = place; inst = inst-of x; fault = fault } ∷ []
+-- the line of a fault, if there is one
+unfoldable pub line-of : (block place inst : ℕ) → Option Fault → List Line
+line-of block place inst none = []
+line-of block place inst (some fault) = record { block = block; place = place; inst = inst; fault = fault } ∷ []
 
 -- the faults of block b's steps from a place on, checked from the state s. "The step then takes effect anyway."
 unfoldable pub faults-from : Rule → Sheet → ℕ → ℕ → List Step → State → List Line
 faults-from rule S b place [] s = []
-faults-from rule S b place (x ∷ xs) s = line-of b place x (check x s) ++ faults-from rule S b (suc place) xs (effect rule (reference-typed S) x s)
+faults-from rule S b place (x ∷ xs) s = line-of b place (inst-of x) (check x s) ++ faults-from rule S b (suc place) xs (effect rule (reference-typed S) x s)
 
 unfoldable pub block-faults : Rule → Sheet → ℕ → List Line
 block-faults rule S b = faults-from rule S b 0 (steps-of S b) (checked-from rule S b)
 
 -- of each of the n blocks from b on, what f gives
-unfoldable pub by-block : (ℕ → List Line) → ℕ → ℕ → List Line
+unfoldable pub by-block : {A : Type 0} → (ℕ → List A) → ℕ → ℕ → List A
 by-block f b zero = []
 by-block f b (suc n) = f b ++ by-block f (suc b) n
 
@@ -71,10 +72,14 @@ missing-names (change inst k from to) = []
 missing-names (operation inst uses defs) = first-list (unallocated uses) (unallocated defs)
 missing-names (safepoint inst slots) = []
 
+-- a line for each such name
+unfoldable pub names-lines : (block place inst : ℕ) → List Name → List Line
+names-lines block place inst names = map (λ n. record { block = block; place = place; inst = inst; fault = missing-allocation-for-reg n }) names
+
 -- "The first such step alone is reported": of the steps from a place on, of the n blocks from b on
 unfoldable pub missing-from : ℕ → ℕ → List Step → List Line
 missing-from b place [] = []
-missing-from b place (x ∷ xs) = first-list (map (λ n. record { block = b; place = place; inst = inst-of x; fault = missing-allocation-for-reg n }) (missing-names x)) (missing-from b (suc place) xs)
+missing-from b place (x ∷ xs) = first-list (names-lines b place (inst-of x) (missing-names x)) (missing-from b (suc place) xs)
 
 unfoldable pub missing-blocks : Sheet → ℕ → ℕ → List Line
 missing-blocks S b zero = []
@@ -146,6 +151,10 @@ unfoldable pub rule-text : Rule → Bytes
 rule-text Old = 111 ∷ 108 ∷ 100 ∷ []
 rule-text House = 104 ∷ 111 ∷ 117 ∷ 115 ∷ 101 ∷ []
 
--- "Header `R rule count`": the count is the number of `E` lines
+-- "Header `R rule count`"
+unfoldable pub header-text : Rule → ℕ → Bytes
+header-text rule count = letter-R ∷ behind-tabs (rule-text rule ∷ digits count ∷ [])
+
+-- the count is the number of `E` lines
 unfoldable pub report-text : Rule → List Line → Bytes
-report-text rule ls = (letter-R ∷ behind-tabs (rule-text rule ∷ digits (length ls) ∷ [])) ++ lines-text ls
+report-text rule ls = header-text rule (length ls) ++ lines-text ls

@@ -10,7 +10,7 @@ use Rattle.paper.specs.Sheet.{reference-typed}
 use Rattle.paper.specs.Steps.{Fault, check, effect, effects}
 use Rattle.paper.specs.Runs.{checked-from}
 use Rattle.paper.specs.Limits.{max-regs, max-slots, max-blocks, max-steps}
-use Rattle.paper.specs.Report.{inst-of, faults-from, block-faults, by-block, find-errors}
+use Rattle.paper.specs.Report.{inst-of, faults-from, block-faults, by-block, find-errors, line-of}
 use Rattle.paper.specs.declared.Rule.{Rule}
 use Rattle.layout.specs.Layout.{regs-word, slots-word, blocks-word, opened-word, steps-word, state-base, state-words, all-words}
 use Rattle.cells.specs.States.{state-of, stored-state}
@@ -20,11 +20,12 @@ use Rattle.steps.specs.Same.{length-steps, steps-more}
 use Rattle.steps.specs.declared.Action.{Action}
 use Rattle.sheet.specs.Loaded.{first-step, step-total, sheet-of, Loaded}
 use Rattle.sheet.specs.Blocks.{steps-in-words}
-use Rattle.report.specs.Passes.{Noted, fault-lines}
+use Rattle.report.specs.Blocks.{by-block-more}
+use Rattle.report.specs.Passes.{Noted}
 use Rattle.report.specs.Reported.{Checkable}
 use Rattle.report.specs.declared.Pass.{Pass}
 use Rattle.report.proofs.LawsPasses.{noted-none, noted-then}
-use Rattle.report.proofs.LawsFaults.{effects-more, faults-more, by-block-more, count-from, count-more, count-below}
+use Rattle.report.proofs.LawsFaults.{effects-more, faults-more, count-from, count-more, count-below}
 
 abbrev pub counts-of : List ℕ → List ℕ
 counts-of words = getD words regs-word 0 ∷ getD words slots-word 0 ∷ []
@@ -80,7 +81,7 @@ pub so-far-more : {pass : Pass} {rule : Rule} {words : List ℕ} {block place : 
     → (a : Action) (o : Option Fault) (inst : ℕ) → a ≡ action-at words (first-step words block + place)
     → o ≡ check (step-of words a) (state-of (counts-of words) t) → inst ≡ inst-of (step-of words a)
     → state-of (counts-of words) u ≡ effect rule (reference-typed (sheet-of words)) (step-of words a) (state-of (counts-of words) t)
-    → SoFar pass rule words block place t report₀ at report next → Noted pass (fault-lines block place inst o) report next report′ next′
+    → SoFar pass rule words block place t report₀ at report next → Noted pass (line-of block place inst o) report next report′ next′
     → SoFar pass rule words block (place + 1) u report₀ at report′ next′
 so-far-more {pass} {rule} {words} {block} {place} a o inst ea eo ei eu s n =
     let first = first-step words block in

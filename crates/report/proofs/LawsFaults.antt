@@ -1,22 +1,19 @@
--- The faults found so far, when one step or one block more is checked, and how many steps there are.
+-- The faults found so far, when one step more is checked, and how many steps there are.
 use mathlib.Core.Path.{_≡_, refl, ap}
 use mathlib.Core.Bool.{Bool}
 use mathlib.Core.List.{List, [], _∷_, _++_, append-nil, append-assoc}
-use mathlib.Core.Option.{Option, none, some}
 use Prim.Native.Nat.{ℕ, zero, suc, _+_, _≤_}
 use native.Mathlib.Nat.{add-zero}
-use native.Mathlib.Numerals.{add-one}
 use native.Mathlib.Omega.{arith}
 use lib.ListN.{length}
 use Rattle.paper.specs.Text.{Name}
 use Rattle.paper.specs.Sheet.{Step, Sheet, reference-typed}
-use Rattle.paper.specs.Steps.{State, Fault, check, effect, effects}
+use Rattle.paper.specs.Steps.{State, check, effect, effects}
 use Rattle.paper.specs.Refusals.{step-count}
-use Rattle.paper.specs.Report.{Line, inst-of, line-of, faults-from, by-block}
+use Rattle.paper.specs.Report.{inst-of, line-of, faults-from}
 use Rattle.paper.specs.declared.Rule.{Rule}
 use Rattle.steps.specs.Same.{length-steps}
 use Rattle.sheet.specs.Loaded.{first-step, step-total, block-at, blocks-at}
-use Rattle.report.specs.Passes.{fault-lines}
 
 -- a step more
 
@@ -26,32 +23,15 @@ module _ (rule : Rule) (ref : Name → Bool) (x : Step) where
   effects-more [] s = refl
   effects-more (y ∷ xs) s = effects-more xs (effect rule ref y s)
 
-lined : (b place : ℕ) (x : Step) (o : Option Fault) → line-of b place x o ≡ fault-lines b place (inst-of x) o
-unfolding line-of fault-lines
-lined b place x none = refl
-lined b place x (some fault) = refl
-
 module _ (rule : Rule) (S : Sheet) (b : ℕ) (x : Step) where
   pub faults-more : (place : ℕ) (xs : List Step) (s : State)
       → faults-from rule S b place (xs ++ (x ∷ [])) s
-      ≡ faults-from rule S b place xs s ++ fault-lines b (place + length xs) (inst-of x) (check x (effects rule (reference-typed S) xs s))
+      ≡ faults-from rule S b place xs s ++ line-of b (place + length xs) (inst-of x) (check x (effects rule (reference-typed S) xs s))
   unfolding faults-from effects
-  faults-more place [] s = rw (add-zero, append-nil) (lined b place x _)
+  faults-more place [] s = rw (add-zero, append-nil)
   faults-more place (y ∷ xs) s =
       let e : suc place + length xs ≡ place + suc (length xs) = omega arith in
-      rw append-assoc (ap (λ t. line-of b place y (check y s) ++ t) (rw e at (faults-more (suc place) xs (effect rule (reference-typed S) y s))))
-
--- a block more
-
-by-block-suc : (f : ℕ → List Line) (b n : ℕ) → by-block f b (suc n) ≡ by-block f b n ++ f (b + n)
-unfolding by-block
-by-block-suc f b zero = rw (add-zero, append-nil)
-by-block-suc f b (suc n) =
-    let e : suc b + n ≡ b + suc n = omega arith in
-    rw append-assoc (ap (λ t. f b ++ t) (rw e at (by-block-suc f (suc b) n)))
-
-pub by-block-more : (f : ℕ → List Line) (n : ℕ) → by-block f 0 (n + 1) ≡ by-block f 0 n ++ f n
-by-block-more f n = let e : 0 + n ≡ n = omega arith in rw add-one (rw e at (by-block-suc f 0 n))
+      rw append-assoc (ap (λ t. line-of b place (inst-of y) (check y s) ++ t) (rw e at (faults-more (suc place) xs (effect rule (reference-typed S) y s))))
 
 -- how many steps
 

@@ -5,13 +5,14 @@ use mathlib.Core.List.{List, [], _∷_}
 use mathlib.Core.Option.{Option, some}
 use Prim.Native.Nat.{ℕ, _+_, _-_, _%_, _≤_, _<_}
 use native.Mathlib.Omega.{arith}
-use borrow.Author.Tests.{ne-eqb, lt-leb, le-leb, lt-ltb, le-ltb}
+use borrow.Author.Tests.{ne-eqb, lt-ltb, le-ltb}
 use lib.ListN.{length, length-append}
 use Rattle.lists.specs.Split.{by-order}
+use Rattle.fields.specs.Spelling.{length-one, length-two, length-three, length-four, length-digits}
 use Rattle.paper.specs.Limits.{max-blocks, max-steps}
-use Rattle.paper.specs.Text.{Bytes, digit-from, digits, name-text}
+use Rattle.paper.specs.Text.{Bytes, digits, name-text}
 use Rattle.paper.specs.Steps.{Fault, missing-allocation-for-reg}
-use Rattle.paper.specs.Report.{behind-tabs, rule-text, letter-E, kind-of, fault-fields, reg-text, slot-text, line-text}
+use Rattle.paper.specs.Report.{behind-tabs, rule-text, letter-E, kind-of, fault-fields, reg-text, slot-text, line-text, header-text}
 use Rattle.paper.specs.declared.Rule.{Rule}
 use Rattle.paper.specs.declared.Rule.the-variants.{Old, House}
 use Rattle.cells.specs.Packed.{name-of-word}
@@ -19,7 +20,7 @@ use Rattle.steps.specs.Actions.{register-of}
 use Rattle.steps.specs.Faults.{fault-of}
 use Rattle.steps.specs.declared.CheckerError.{CheckerError}
 use Rattle.steps.specs.declared.CheckerError.the-variants as error
-use Rattle.report.specs.Lines.{field-text, field-texts, fields-line, header-text, kind-in, fields-in, FieldsOf, ErrorWithin}
+use Rattle.report.specs.Lines.{field-text, field-texts, fields-line, kind-in, fields-in, FieldsOf, ErrorWithin}
 use Rattle.report.specs.declared.Field.the-variants.{Nothing, Register, Named}
 use Rattle.report.specs.declared.FaultFields.{FaultFields}
 
@@ -60,62 +61,17 @@ header-room rule count at n h = omega (arith, behind (rule-text rule) (digits co
 
 -- how long it can get
 
-digit-none : (unit n : ℕ) → n < unit → length (digit-from unit n) ≡ 0
-unfolding digit-from
-digit-none unit n h = rw (lt-leb unit n h)
-
-digit-one : (unit n : ℕ) → length (digit-from unit n) ≤ 1
-unfolding digit-from
-digit-one unit n = by-order n unit (λ h. rw (lt-leb unit n h) (omega arith)) λ h. rw (le-leb unit n h) (omega arith)
-
-digits-length : (n : ℕ) → length (digits n) ≡ length (digit-from 10000 n) + length (digit-from 1000 n) + length (digit-from 100 n) + length (digit-from 10 n) + 1
-unfolding digits
-digits-length n = simp length-append (omega arith)
-
-module _ (n : ℕ) where
-  pub five-digits : length (digits n) ≤ 5
-  five-digits = omega (arith, digits-length n, digit-one 10000 n, digit-one 1000 n, digit-one 100 n, digit-one 10 n)
-
-  four-digits : n < 10000 → length (digits n) ≤ 4
-  four-digits h = omega (arith, digits-length n, digit-none 10000 n (omega arith), digit-one 1000 n, digit-one 100 n, digit-one 10 n)
-
-  three-digits : n < 1000 → length (digits n) ≤ 3
-  three-digits h =
-      omega (arith, digits-length n, digit-none 10000 n (omega arith), digit-none 1000 n (omega arith), digit-one 100 n, digit-one 10 n)
-
-  two-digits : n < 100 → length (digits n) ≤ 2
-  two-digits h =
-      omega (
-        arith,
-        digits-length n,
-        digit-none 10000 n (omega arith),
-        digit-none 1000 n (omega arith),
-        digit-none 100 n (omega arith),
-        digit-one 10 n,
-      )
-
-  one-digit : n < 10 → length (digits n) ≤ 1
-  one-digit h =
-      omega (
-        arith,
-        digits-length n,
-        digit-none 10000 n (omega arith),
-        digit-none 1000 n (omega arith),
-        digit-none 100 n (omega arith),
-        digit-none 10 n (omega arith),
-      )
-
 pub header-short : (rule : Rule) (count : ℕ) → length (header-text rule count) ≤ 16
 unfolding header-text rule-text
-header-short Old count = omega (arith, behind (rule-text Old) (digits count ∷ []), behind (digits count) [], behind-none, five-digits count)
-header-short House count = omega (arith, behind (rule-text House) (digits count ∷ []), behind (digits count) [], behind-none, five-digits count)
+header-short Old count = omega (arith, behind (rule-text Old) (digits count ∷ []), behind (digits count) [], behind-none, length-digits count)
+header-short House count = omega (arith, behind (rule-text House) (digits count ∷ []), behind (digits count) [], behind-none, length-digits count)
 
 pub name-short : (w : ℕ) → length (name-text (name-of-word w)) ≤ 4
 unfolding name-text name-of-word
 name-short w =
     by-order (w % 512) 256
-    (λ h. rw (lt-ltb (w % 512) 256 h) (omega (arith, three-digits (w % 512) (omega arith))))
-    λ h. rw (le-ltb (w % 512) 256 h) (omega (arith, three-digits (w % 512 - 256) (omega arith)))
+    (λ h. rw (lt-ltb (w % 512) 256 h) (omega (arith, length-three (w % 512) (omega arith))))
+    λ h. rw (le-ltb (w % 512) 256 h) (omega (arith, length-three (w % 512 - 256) (omega arith)))
 
 -- "The longest line is 32 bytes"
 line-short : (block place inst kind : ℕ) (x y z : Bytes) → block < max-blocks → place < max-steps → kind < 10 → length x ≤ 3 → length y ≤ 4 → length z ≤ 4
@@ -131,10 +87,10 @@ line-short block place inst kind x y z hb hp hk hx hy hz =
       behind y (z ∷ []),
       behind z [],
       behind-none,
-      two-digits block (omega arith),
-      four-digits place (omega arith),
-      five-digits inst,
-      one-digit kind hk,
+      length-two block (omega arith),
+      length-four place (omega arith),
+      length-digits inst,
+      length-one kind hk,
     )
 
 -- what an error's fields stand for
@@ -166,18 +122,18 @@ module _ (block place inst : ℕ) (hb : block < max-blocks) (hp : place < max-st
   error-short error.Nothing h = line-short block place inst 0 _ _ _ hb hp (omega arith) (omega arith) (omega arith) (omega arith)
   error-short (error.UnknownValueInReg r) h =
       rw (register-small r h)
-      (line-short block place inst 2 _ _ _ hb hp (omega arith) (omega (arith, two-digits r (omega arith))) (omega arith) (omega arith))
+      (line-short block place inst 2 _ _ _ hb hp (omega arith) (omega (arith, length-two r (omega arith))) (omega arith) (omega arith))
   error-short (error.IncorrectValueInReg r e a) h =
       rw (register-small r h)
-      (line-short block place inst 3 _ _ _ hb hp (omega arith) (omega (arith, two-digits r (omega arith))) (name-short e) (name-short a))
+      (line-short block place inst 3 _ _ _ hb hp (omega arith) (omega (arith, length-two r (omega arith))) (name-short e) (name-short a))
   error-short (error.UnknownValueInSlot k e) h =
-      line-short block place inst 4 _ _ _ hb hp (omega arith) (omega (arith, two-digits k (omega arith))) (name-short e) (omega arith)
+      line-short block place inst 4 _ _ _ hb hp (omega arith) (omega (arith, length-two k (omega arith))) (name-short e) (omega arith)
   error-short (error.IncorrectValueInSlot k e a) h =
-      line-short block place inst 5 _ _ _ hb hp (omega arith) (omega (arith, two-digits k (omega arith))) (name-short e) (name-short a)
+      line-short block place inst 5 _ _ _ hb hp (omega arith) (omega (arith, length-two k (omega arith))) (name-short e) (name-short a)
   error-short (error.StackMapSpecifiesNonRefSlot k) h =
-      line-short block place inst 6 _ _ _ hb hp (omega arith) (omega (arith, two-digits k (omega arith))) (omega arith) (omega arith)
+      line-short block place inst 6 _ _ _ hb hp (omega arith) (omega (arith, length-two k (omega arith))) (omega arith) (omega arith)
   error-short (error.StackMapSpecifiesUndefinedSlot k) h =
-      line-short block place inst 7 _ _ _ hb hp (omega arith) (omega (arith, two-digits k (omega arith))) (omega arith) (omega arith)
+      line-short block place inst 7 _ _ _ hb hp (omega arith) (omega (arith, length-two k (omega arith))) (omega arith) (omega arith)
 
   -- an error's line
   pub fields-short : (e : CheckerError) (f : FaultFields) → ErrorWithin e → FieldsOf (fault-of e) f → length (fields-line block place inst f) ≤ 32

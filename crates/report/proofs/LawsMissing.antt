@@ -6,14 +6,14 @@ use Prim.Native.Nat.{ℕ, suc, _+_, _-_, _≤_, _<_}
 use native.Mathlib.Numerals.{add-one}
 use native.Mathlib.Omega.{arith}
 use Rattle.paper.specs.Sheet.{Sheet, steps-of}
-use Rattle.paper.specs.Report.{Line, inst-of, first-list, unallocated, missing-names, missing-from, missing-blocks, faults}
+use Rattle.paper.specs.Report.{Line, inst-of, first-list, unallocated, missing-names, missing-from, missing-blocks, faults, names-lines}
 use Rattle.paper.specs.declared.Rule.{Rule}
 use Rattle.layout.specs.Layout.{defs-from}
 use Rattle.steps.specs.Actions.{operands, step-of, action-at, steps-at}
 use Rattle.steps.specs.Faults.{some-in}
 use Rattle.steps.specs.declared.Action.the-variants.{Operation}
 use Rattle.sheet.specs.Loaded.{sheet-of}
-use Rattle.report.specs.Missing.{names-lines, step-lines, missing-lines, is-found, MissingIs, MissingOf}
+use Rattle.report.specs.Missing.{step-lines, missing-lines, is-found, MissingIs, MissingOf}
 use Rattle.report.specs.declared.Missing.{Missing}
 use Rattle.report.specs.declared.Missing.the-variants.{Nothing, Found}
 

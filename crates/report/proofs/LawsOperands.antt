@@ -10,11 +10,10 @@ use Rattle.lists.specs.Region.{region}
 use Rattle.lists.specs.Sets.{Wrote, then}
 use Rattle.lists.specs.Grown.{region-more}
 use Rattle.paper.specs.Sheet.{Operand}
-use Rattle.paper.specs.Report.{unallocated, lines-text}
+use Rattle.paper.specs.Report.{unallocated, lines-text, names-lines}
 use Rattle.cells.specs.Packed.{name-of-word}
 use Rattle.steps.specs.Actions.{no-register, register-of, operand-of, operands}
 use Rattle.report.specs.Lines.{fields-line}
-use Rattle.report.specs.Missing.{names-lines}
 use Rattle.report.specs.declared.Field.the-variants as field
 use Rattle.report.proofs.LawsLines.{missing-text}
 use Rattle.report.proofs.LawsPasses.{lines-append, one-line}

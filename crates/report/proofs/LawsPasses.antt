@@ -7,9 +7,9 @@ use native.Mathlib.Omega.{arith}
 use lib.ListN.{length, length-append}
 use Rattle.lists.specs.Sets.{Wrote, then}
 use Rattle.paper.specs.Steps.{Fault, missing-allocation-for-reg, unknown-value-in-reg, incorrect-value-in-reg, unknown-value-in-slot, incorrect-value-in-slot, stack-map-specifies-non-ref-slot, stack-map-specifies-undefined-slot}
-use Rattle.paper.specs.Report.{Line, kind-of, line-text, lines-text}
+use Rattle.paper.specs.Report.{Line, kind-of, line-text, lines-text, line-of}
 use Rattle.report.specs.Lines.{fields-line, kind-in, fields-in, FieldsOf}
-use Rattle.report.specs.Passes.{noted-list, noted-size, Noted, fault-lines}
+use Rattle.report.specs.Passes.{noted-list, noted-size, Noted}
 use Rattle.report.specs.declared.Pass.{Pass}
 use Rattle.report.specs.declared.Pass.the-variants.{Count, Write}
 use Rattle.report.specs.declared.FaultFields.{FaultFields}
@@ -55,31 +55,31 @@ some-kind (stack-map-specifies-non-ref-slot k) e = omega arith
 some-kind (stack-map-specifies-undefined-slot k) e = omega arith
 
 module _ (block place inst : ℕ) where
-  no-line : (o : Option Fault) → kind-in o ≡ 0 → fault-lines block place inst o ≡ []
-  unfolding kind-in fault-lines
+  no-line : (o : Option Fault) → kind-in o ≡ 0 → line-of block place inst o ≡ []
+  unfolding kind-in line-of
   no-line none e = refl
   no-line (some fault) e = absurd (some-kind fault e)
 
   pub noted-nothing : {o : Option Fault} {f : FaultFields} (pass : Pass) (l : List ℕ) (i : ℕ) → FieldsOf o f → f .kind ≡ 0
-      → Noted pass (fault-lines block place inst o) l i l i
+      → Noted pass (line-of block place inst o) l i l i
   noted-nothing {o} pass l i F e = rw (no-line o (sym (F .kind) ∙ e)) (noted-none pass l i)
 
-  one-more : (o : Option Fault) → (kind-in o ≡ 0 → ⊥) → length (fault-lines block place inst o) ≡ 1
-  unfolding kind-in fault-lines
+  one-more : (o : Option Fault) → (kind-in o ≡ 0 → ⊥) → length (line-of block place inst o) ≡ 1
+  unfolding kind-in line-of
   one-more none e = absurd (e refl)
   one-more (some fault) e = refl
 
   pub noted-counted : {o : Option Fault} {f : FaultFields} (l : List ℕ) (i : ℕ) → FieldsOf o f → (f .kind ≡ 0 → ⊥)
-      → Noted Count (fault-lines block place inst o) l i l (i + 1)
+      → Noted Count (line-of block place inst o) l i l (i + 1)
   unfolding noted-list noted-size
   noted-counted {o} l i F e = record { list = refl; next = rw (one-more o (λ z. e (F .kind ∙ z))) (refl) }
 
   text-of-fault : (o : Option Fault) (f : FaultFields) → FieldsOf o f → (kind-in o ≡ 0 → ⊥)
-      → fields-line block place inst f ≡ lines-text (fault-lines block place inst o)
-  unfolding kind-in fields-in fault-lines line-text
+      → fields-line block place inst f ≡ lines-text (line-of block place inst o)
+  unfolding kind-in fields-in line-of line-text
   text-of-fault none f F e = absurd (e refl)
   text-of-fault (some fault) f F e = line-of-fields block place inst F ∙ sym (one-line _)
 
   pub noted-written : {o : Option Fault} {f : FaultFields} {l l′ : List ℕ} {i j : ℕ} → FieldsOf o f → (f .kind ≡ 0 → ⊥)
-      → Wrote l i (fields-line block place inst f) l′ j → Noted Write (fault-lines block place inst o) l i l′ j
+      → Wrote l i (fields-line block place inst f) l′ j → Noted Write (line-of block place inst o) l i l′ j
   noted-written {o} {f} F e w = wrote-noted (rw (← text-of-fault o f F (λ z. e (F .kind ∙ z))) w)

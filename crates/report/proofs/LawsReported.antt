@@ -9,44 +9,44 @@ use Rattle.lists.specs.Sets.{Wrote, then}
 use Rattle.paper.specs.Limits.{report-size}
 use Rattle.paper.specs.Text.{Name}
 use Rattle.paper.specs.Sheet.{Sheet}
-use Rattle.paper.specs.Report.{Line, first-list, missing-allocations, find-errors, faults, lines-text, report-text}
+use Rattle.paper.specs.Report.{Line, first-list, missing-allocations, find-errors, faults, lines-text, report-text, header-text, names-lines}
+use Rattle.paper.specs.Answer.{said-of, answer-of, report-of}
 use Rattle.paper.specs.declared.Rule.{Rule}
 use Rattle.paper.specs.declared.Answer.the-variants.{Accepted, Faulty}
-use Rattle.report.specs.Lines.{header-text}
 use Rattle.steps.specs.Faults.{some-in}
 use Rattle.report.specs.Passes.{noted-list, noted-size, Noted}
-use Rattle.report.specs.Missing.{names-lines}
-use Rattle.report.specs.Reported.{answered, Reported, wrote-laid}
+use Rattle.report.specs.Reported.{Reported, wrote-laid}
 use Rattle.report.specs.declared.Pass.the-variants.{Count, Write}
 use Rattle.report.proofs.LawsPasses.{noted-wrote}
 
 -- the whole text
 wrote-report : (rule : Rule) (ls : List Line) {l l₁ l₂ : List ℕ} {j k : ℕ} → Wrote l 0 (header-text rule (length ls)) l₁ j → Wrote l₁ j (lines-text ls) l₂ k
     → Wrote l 0 (report-text rule ls) l₂ k
-unfolding report-text header-text
+unfolding report-text
 wrote-report rule ls p q = then p q
 
-faulty : (rule : Rule) (ls : List Line) (k : ℕ) → k ≡ length (report-text rule ls) → (length ls ≡ 0 → ⊥) → Faulty k ≡ answered rule ls
-unfolding answered
-faulty rule [] k e n = absurd (n refl)
-faulty rule (l ∷ ls) k e n = ap Faulty e
+-- what is said of lines, and of none
+faulty : {rule : Rule} (ls : List Line) {l l′ : List ℕ} {k : ℕ} → Wrote l 0 (report-text rule ls) l′ k → (length ls ≡ 0 → ⊥) → k ≤ report-size → report-size ≤ length l
+    → Reported rule ls l (Faulty k) l′
+unfolding said-of answer-of report-of
+faulty [] w n small fits = absurd (n refl)
+faulty {rule} (x ∷ xs) {k} w n small fits =
+    let e : k ≡ length (report-text rule (x ∷ xs)) = omega (arith, w .next) in
+    record { answer = ap Faulty e; text = wrote-laid w (omega arith); fits = omega (arith, e) }
 
-accepted : (rule : Rule) (ls : List Line) (k : ℕ) → k ≡ length (report-text rule ls) → length ls ≡ 0 → Accepted k ≡ answered rule ls
-unfolding answered
-accepted rule [] k e n = ap Accepted e
-accepted rule (l ∷ ls) k e n = absurd (omega arith)
+accepted : {rule : Rule} (ls : List Line) {l l′ : List ℕ} {k : ℕ} → Wrote l 0 (report-text rule ls) l′ k → length ls ≡ 0 → k ≤ report-size → report-size ≤ length l
+    → Reported rule ls l (Accepted k) l′
+unfolding said-of answer-of report-of
+accepted {rule} [] {k} w n small fits =
+    let e : k ≡ length (report-text rule []) = omega (arith, w .next) in
+    record { answer = ap Accepted e; text = wrote-laid w (omega arith); fits = omega (arith, e) }
+accepted (x ∷ xs) w n small fits = absurd (omega arith)
 
 module _ {rule : Rule} {ls : List Line} {l l₁ l₂ : List ℕ} {j k : ℕ} where
   -- header and lines
   pub reported-faulty : Wrote l 0 (header-text rule (length ls)) l₁ j → Wrote l₁ j (lines-text ls) l₂ k → (length ls ≡ 0 → ⊥)
       → k ≤ report-size → report-size ≤ length l → Reported rule ls l (Faulty k) l₂
-  reported-faulty p q n small fits =
-      let w : Wrote l 0 (report-text rule ls) l₂ k = wrote-report rule ls p q in
-      record {
-        answer = faulty rule ls k (omega (arith, w .next)) n;
-        text = wrote-laid w (omega arith);
-        fits = omega (arith, w .next);
-      }
+  reported-faulty p q n small fits = faulty ls (wrote-report rule ls p q) n small fits
 
 no-lines : (ls : List Line) → length ls ≡ 0 → lines-text ls ≡ []
 unfolding lines-text
@@ -56,13 +56,7 @@ no-lines (l ∷ ls) e = absurd (omega arith)
 -- the header alone
 pub reported-accepted : {rule : Rule} {ls : List Line} {l l₁ : List ℕ} {j : ℕ} → Wrote l 0 (header-text rule (length ls)) l₁ j → length ls ≡ 0
     → j ≤ report-size → report-size ≤ length l → Reported rule ls l (Accepted j) l₁
-reported-accepted {rule} {ls} {l} {l₁} {j} p n small fits =
-    let w : Wrote l 0 (report-text rule ls) l₁ j = wrote-report rule ls p (rw (no-lines ls n) (record { list = refl; next = omega arith })) in
-    record {
-      answer = accepted rule ls j (omega (arith, w .next)) n;
-      text = wrote-laid w (omega arith);
-      fits = omega (arith, w .next);
-    }
+reported-accepted {rule} {ls} p n small fits = accepted ls (wrote-report rule ls p (rw (no-lines ls n) (record { list = refl; next = omega arith }))) n small fits
 
 -- what is reported
 

@@ -1,4 +1,5 @@
 pub mod Lines
+pub mod Blocks
 pub mod Passes
 pub mod Missing
 pub mod Reported

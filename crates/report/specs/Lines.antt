@@ -1,4 +1,4 @@
--- A report's header and lines as the code writes them: the fields of an `E` line by value, and the text that they stand for.
+-- A report's lines as the code writes them: the fields of an `E` line by value, and the text that they stand for.
 use mathlib.Core.Path.{_≡_}
 use mathlib.Core.List.{List, [], _∷_}
 use mathlib.Core.Option.{Option, none, some}
@@ -6,8 +6,7 @@ use Prim.Native.Nat.{ℕ, _<_}
 use Rattle.paper.specs.Text.{Bytes, digits, letter-r, name-text}
 use Rattle.paper.specs.Limits.{max-regs, max-slots}
 use Rattle.paper.specs.Steps.{Fault}
-use Rattle.paper.specs.Report.{kind-of, nothing, slot-text, fault-fields, behind-tabs, letter-E, letter-R, rule-text}
-use Rattle.paper.specs.declared.Rule.{Rule}
+use Rattle.paper.specs.Report.{kind-of, nothing, slot-text, fault-fields, behind-tabs, letter-E}
 use Rattle.cells.specs.Packed.{name-of-word}
 use Rattle.steps.specs.declared.CheckerError.{CheckerError}
 use Rattle.steps.specs.declared.CheckerError.the-variants as error
@@ -32,10 +31,6 @@ field-texts f = field-text (f .location) ∷ field-text (f .expected) ∷ field-
 -- `E block place inst kind where expected actual`
 unfoldable pub fields-line : (block place inst : ℕ) → FaultFields → Bytes
 fields-line block place inst f = letter-E ∷ behind-tabs (digits block ∷ digits place ∷ digits inst ∷ digits (f .kind) ∷ field-texts f)
-
--- `R rule count`
-unfoldable pub header-text : Rule → ℕ → Bytes
-header-text rule count = letter-R ∷ behind-tabs (rule-text rule ∷ digits count ∷ [])
 
 -- a fault's kind and fields; kind 0 where there is no fault
 unfoldable pub kind-in : Option Fault → ℕ

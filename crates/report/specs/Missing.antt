@@ -1,24 +1,18 @@
 -- The first step that has an operand with no allocation, as the code names it, and the lines that it stands for.
 use mathlib.Core.Path.{_≡_}
 use mathlib.Core.Bool.{Bool, true, false}
-use mathlib.Core.List.{List, [], map}
+use mathlib.Core.List.{List, []}
 use Prim.Native.Nat.{ℕ, _<_}
 use lib.ListN.{getD}
-use Rattle.paper.specs.Text.{Name}
 use Rattle.paper.specs.Sheet.{Step}
-use Rattle.paper.specs.Steps.{missing-allocation-for-reg}
 use Rattle.paper.specs.Limits.{max-steps}
-use Rattle.paper.specs.Report.{Line, inst-of, missing-names, missing-allocations}
+use Rattle.paper.specs.Report.{Line, inst-of, missing-names, names-lines, missing-allocations}
 use Rattle.layout.specs.Layout.{blocks-word, steps-word}
 use Rattle.steps.specs.Actions.{action-at, step-of}
 use Rattle.steps.specs.Faults.{some-in}
 use Rattle.sheet.specs.Loaded.{sheet-of}
 use Rattle.report.specs.declared.Missing.{Missing}
 use Rattle.report.specs.declared.Missing.the-variants.{Nothing, Found}
-
--- a line for each name
-unfoldable pub names-lines : (block place inst : ℕ) → List Name → List Line
-names-lines block place inst names = map (λ n. record { block = block; place = place; inst = inst; fault = missing-allocation-for-reg n }) names
 
 -- a line for each operand of a step that has no allocation
 unfoldable pub step-lines : (block place : ℕ) → Step → List Line

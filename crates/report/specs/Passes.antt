@@ -1,12 +1,10 @@
 -- A pass over the sheet's faults counts them or writes their lines. What it leaves of the report, and its number: the count so
 -- far, or the place behind the text so far.
 use mathlib.Core.Path.{_≡_}
-use mathlib.Core.List.{List, [], _∷_}
-use mathlib.Core.Option.{Option, none, some}
+use mathlib.Core.List.{List}
 use Prim.Native.Nat.{ℕ, _+_}
 use lib.ListN.{length}
 use lib.Seq.{sets}
-use Rattle.paper.specs.Steps.{Fault}
 use Rattle.paper.specs.Report.{Line, lines-text}
 use Rattle.report.specs.declared.Pass.{Pass}
 use Rattle.report.specs.declared.Pass.the-variants.{Count, Write}
@@ -23,8 +21,3 @@ noted-size Write ls = length (lines-text ls)
 pub record Noted (pass : Pass) (ls : List Line) (report : List ℕ) (at : ℕ) (report′ : List ℕ) (r : ℕ) : Type 0 where
   pub list : report′ ≡ noted-list pass ls report at
   pub next : r ≡ at + noted-size pass ls
-
--- the line of a fault, if there is one
-unfoldable pub fault-lines : (block place inst : ℕ) → Option Fault → List Line
-fault-lines block place inst none = []
-fault-lines block place inst (some fault) = record { block = block; place = place; inst = inst; fault = fault } ∷ []

@@ -10,10 +10,9 @@ use Rattle.paper.specs.Limits.{max-steps, report-size}
 use Rattle.paper.specs.Refusals.{step-count}
 use Rattle.paper.specs.Runs.{checked-from}
 use Rattle.paper.specs.Report.{Line, missing-allocations, report-text}
-use Rattle.paper.specs.Answer.{laid}
+use Rattle.paper.specs.Answer.{said-of, laid, answer-of, report-of}
 use Rattle.paper.specs.declared.Rule.{Rule}
 use Rattle.paper.specs.declared.Answer.{Answer}
-use Rattle.paper.specs.declared.Answer.the-variants.{Accepted, Faulty}
 use Rattle.layout.specs.Layout.{regs-word, slots-word, blocks-word, state-at}
 use Rattle.cells.specs.States.{stored-state}
 use Rattle.sheet.specs.Loaded.{sheet-of, Loaded}
@@ -26,14 +25,10 @@ pub record Checkable (rule : Rule) (words : List ℕ) : Type 0 where
   pub states : (b : ℕ) → b < getD words blocks-word 0
       → stored-state (getD words regs-word 0 ∷ getD words slots-word 0 ∷ []) (state-at b) words ≡ checked-from rule (sheet-of words) b
 
-unfoldable pub answered : Rule → List Line → Answer
-answered rule [] = Accepted (length (report-text rule []))
-answered rule (l ∷ ls) = Faulty (length (report-text rule (l ∷ ls)))
-
 -- the lines ls are reported
 pub record Reported (rule : Rule) (ls : List Line) (report : List ℕ) (r : Answer) (report′ : List ℕ) : Type 0 where
-  pub answer : r ≡ answered rule ls
-  pub text : report′ ≡ laid (report-text rule ls) report
+  pub answer : r ≡ answer-of (said-of rule ls)
+  pub text : report′ ≡ report-of (said-of rule ls) report
   pub fits : length (report-text rule ls) ≤ report-size
 
 -- a text that was written at the start is laid there

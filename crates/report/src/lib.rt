@@ -8,15 +8,15 @@ ghost use Rattle.lists.specs.Sets.{Wrote};
 ghost use Rattle.paper.specs.Text.{tab, digits, name-text};
 ghost use Rattle.paper.specs.Sheet.{steps-of};
 ghost use Rattle.paper.specs.Limits.{max-blocks, max-operands, max-steps, report-size};
-ghost use Rattle.paper.specs.Report.{block-faults, find-errors, unallocated, missing-from, faults, behind-tabs, rule-text, lines-text};
+ghost use Rattle.paper.specs.Report.{block-faults, find-errors, unallocated, missing-from, faults, behind-tabs, rule-text, lines-text, line-of, names-lines, header-text};
 ghost use Rattle.layout.specs.Layout.{blocks-word};
 ghost use Rattle.cells.specs.Packed.{name-of-word};
 ghost use Rattle.steps.specs.Actions.{operand-of, operands};
 ghost use Rattle.steps.specs.Faults.{fault-of, some-in};
 ghost use Rattle.sheet.specs.Loaded.{step-total, sheet-of, Loaded};
-ghost use Rattle.report.specs.Lines.{longest-line, field-text, field-texts, fields-line, header-text, FieldsOf, ErrorWithin};
-ghost use Rattle.report.specs.Passes.{Noted, fault-lines};
-ghost use Rattle.report.specs.Missing.{names-lines, is-found, MissingIs, MissingOf};
+ghost use Rattle.report.specs.Lines.{longest-line, field-text, field-texts, fields-line, FieldsOf, ErrorWithin};
+ghost use Rattle.report.specs.Passes.{Noted};
+ghost use Rattle.report.specs.Missing.{is-found, MissingIs, MissingOf};
 ghost use Rattle.report.specs.Reported.{Checkable, Reported};
 ghost use Rattle.report.specs.declared.Missing.the-variants.{Found};
 use layout::BLOCK_BASE;
@@ -225,7 +225,7 @@ fn note(
     error: CheckerError,
 ) -> usize
     requires { ⌜ (block < max-blocks) × (place < max-steps) × ErrorWithin error × (at + longest-line ≤ length (now report)) ⌝ }
-    ensures { λ r. ⌜ Noted pass (fault-lines block place inst (fault-of error)) (now (report .entry)) at (now (report .exit)) r × (r ≤ at + longest-line) ⌝ }
+    ensures { λ r. ⌜ Noted pass (line-of block place inst (fault-of error)) (now (report .entry)) at (now (report .exit)) r × (r ≤ at + longest-line) ⌝ }
 {
     let fault = fields_of(error);
     if fault.kind == 0 {

@@ -5,7 +5,7 @@ use Prim.Native.Nat.{ℕ, zero, suc, _+_, _<_}
 use native.Mathlib.Omega.{arith}
 use lib.ListN.{getD}
 use Rattle.paper.specs.Sheet.{Sheet, steps-of, reference-typed}
-use Rattle.paper.specs.Report.{missing-names, missing-from, missing-blocks, missing-allocations}
+use Rattle.paper.specs.Report.{missing-names, names-lines, missing-from, missing-blocks, missing-allocations}
 use Rattle.layout.specs.Layout.{regs-word, slots-word, blocks-word, opened-word, steps-word}
 use Rattle.steps.specs.Actions.{step-of, action-at, steps-at, InRange, Honest}
 use Rattle.steps.specs.Laws.{both-none, allocated}
@@ -21,7 +21,7 @@ block-none S b (suc i) (suc n) h e =
     rw z at (block-none S (suc b) i n (omega arith) (both-none _ _ e .1))
 
 step-none : (words : List ℕ) (b place k i n : ℕ) → i < n → missing-from b place (steps-at words k n) ≡ [] → missing-names (step-of words (action-at words (k + i))) ≡ []
-unfolding missing-from steps-at
+unfolding names-lines missing-from steps-at
 step-none words b place k i zero h e = absurd (omega arith)
 step-none words b place k zero (suc n) h e = let z : k + 0 ≡ k = omega arith in rw z (map-eq-nil-iff _ .0 (both-none _ _ e .0))
 step-none words b place k (suc i) (suc n) h e =

@@ -2,9 +2,7 @@
 use mathlib.Core.Path.{_≡_, refl, ap, _∙_}
 use mathlib.Core.List.{List, [], _∷_, _++_, map, map-append, append-nil, append-assoc}
 use mathlib.Core.Option.{Option, none, some}
-use Prim.Native.Nat.{ℕ, zero, suc, _+_, _/_, _%_, _≤_, _<_}
-use native.Mathlib.Nat.{add-zero}
-use native.Mathlib.Numerals.{add-one}
+use Prim.Native.Nat.{ℕ, _+_, _/_, _%_, _≤_, _<_}
 use native.Mathlib.Omega.{arith}
 use borrow.Author.Tests.{eq-eqb, ne-eqb}
 use lib.ListN.{length, getD}
@@ -16,16 +14,17 @@ use Rattle.paper.specs.Limits.{max-regs, max-slots, max-blocks}
 use Rattle.paper.specs.Sheet.{Sheet}
 use Rattle.paper.specs.Cells.{named}
 use Rattle.paper.specs.Steps.{State}
-use Rattle.paper.specs.Report.{behind-tabs}
+use Rattle.paper.specs.Report.{by-block, behind-tabs}
 use Rattle.paper.specs.declared.Rule.{Rule}
 use Rattle.paper.specs.declared.Rule.the-variants.{Old, House}
 use Rattle.layout.specs.Layout.{regs-word, slots-word, blocks-word, state-at, mark-at, run-words}
 use Rattle.cells.specs.Packed.{name-of-word, marked, of-kind, cell-of}
 use Rattle.cells.specs.States.{cells-of, state-of, rows-at, stored-state}
+use Rattle.report.specs.Blocks.{by-block-more}
 use Rattle.report.proofs.LawsLines.{name-short}
 use Rattle.sheet.specs.Loaded.{sheet-of}
 use Rattle.runs.specs.Table.{mark-of}
-use Rattle.states.specs.EntryStates.{mark-text, cell-text, cell-texts, visited-text, letter-D, block-text, blocks-text}
+use Rattle.states.specs.EntryStates.{mark-text, cell-text, cell-texts, visited-text, letter-D, block-text}
 use Rattle.states.specs.Stated.{HoldsStates, tabbed, row-text, head-text}
 
 -- fields behind tabs
@@ -141,17 +140,10 @@ module _ {rule : Rule} {words : List ℕ} {b : ℕ} (E : HoldsStates rule words)
 
 -- the lines
 
-pub blocks-none : (rule : Rule) (S : Sheet) (l : List ℕ) → Wrote l 0 (blocks-text rule S 0 0) l 0
-unfolding blocks-text
+pub blocks-none : (rule : Rule) (S : Sheet) (l : List ℕ) → Wrote l 0 (by-block (block-text rule S) 0 0) l 0
+unfolding by-block
 blocks-none rule S l = record { list = refl; next = omega arith }
 
-blocks-suc : (rule : Rule) (S : Sheet) (b n : ℕ) → blocks-text rule S b (suc n) ≡ blocks-text rule S b n ++ block-text rule S (b + n)
-unfolding blocks-text
-blocks-suc rule S b zero = rw (add-zero, append-nil)
-blocks-suc rule S b (suc n) =
-    let e : suc b + n ≡ b + suc n = omega arith in
-    rw append-assoc (ap (λ (t : Bytes). block-text rule S b ++ t) (rw e at (blocks-suc rule S (suc b) n)))
-
-pub blocks-then : {l l₁ l₂ : List ℕ} {j k : ℕ} (rule : Rule) (S : Sheet) (n : ℕ) → Wrote l 0 (blocks-text rule S 0 n) l₁ j → Wrote l₁ j (block-text rule S n) l₂ k
-    → Wrote l 0 (blocks-text rule S 0 (n + 1)) l₂ k
-blocks-then rule S n p q = let z : 0 + n ≡ n = omega arith in rw (add-one, blocks-suc rule S 0 n, z) (then p q)
+pub blocks-then : {l l₁ l₂ : List ℕ} {j k : ℕ} (rule : Rule) (S : Sheet) (n : ℕ) → Wrote l 0 (by-block (block-text rule S) 0 n) l₁ j → Wrote l₁ j (block-text rule S n) l₂ k
+    → Wrote l 0 (by-block (block-text rule S) 0 (n + 1)) l₂ k
+blocks-then rule S n p q = rw (by-block-more (block-text rule S) n) (then p q)

@@ -1,6 +1,6 @@
 -- From what the callees promise to the text of a sheet's entry states, and from that to the outcome of a call.
 use mathlib.Core.Path.{_≡_, refl, sym, ap, _∙_, subst}
-use mathlib.Core.Bool.{Bool, true, false, cond, true≢false}
+use mathlib.Core.Bool.{true, false, true≢false}
 use mathlib.Core.List.{List, [], _∷_}
 use Prim.Native.Nat.{ℕ, _≤_}
 use native.Mathlib.Omega.{arith}
@@ -9,8 +9,8 @@ use Rattle.lists.specs.Sets.{Wrote}
 use Rattle.paper.specs.Text.{Bytes, Name}
 use Rattle.paper.specs.Sheet.{Sheet}
 use Rattle.paper.specs.Limits.{report-size}
-use Rattle.paper.specs.Report.{missing-allocations}
-use Rattle.paper.specs.Answer.{answer, written, Lent, too-short, laid, zeros}
+use Rattle.paper.specs.Report.{by-block, names-lines, missing-allocations}
+use Rattle.paper.specs.Answer.{too-short, laid, zeros}
 use Rattle.paper.specs.declared.Rule.{Rule}
 use Rattle.layout.specs.Layout.{blocks-word, run-words}
 use Rattle.sheet.specs.Loaded.{sheet-of, Loaded}
@@ -19,16 +19,15 @@ use Rattle.sheet.specs.declared.Loading as Loading
 use Rattle.sheet.specs.declared.Loading.the-variants as loading
 use Rattle.steps.specs.Faults.{some-in}
 use Rattle.runs.specs.Stands.{Analysed, analysed-sheet, analysed-loaded, analysed-state}
-use Rattle.report.specs.Missing.{names-lines, step-lines, missing-lines, MissingOf}
+use Rattle.report.specs.Missing.{step-lines, missing-lines, MissingOf}
 use Rattle.report.specs.declared.Missing.{Missing}
 use Rattle.report.specs.declared.Missing.the-variants.{Found}
 use Rattle.report.specs.Reported.{wrote-laid}
-use Rattle.checker.specs.Checked.{lent, text-of, lent-behind, Texted}
+use Rattle.checker.specs.Checked.{lent, Stated}
 use Rattle.checker.proofs.Laws.{loads-sheet, refuses-sheet}
-use Rattle.checker.proofs.Texts.{laid-length}
-use Rattle.states.specs.EntryStates.{blocks-text, unless-missing, states-after, entry-states}
-use Rattle.states.specs.Stated.{longest-text, Outcome, outcome, Stated, part-text, Written, HoldsStates}
-use Rattle.states.specs.declared.Part.the-variants.{Answer}
+use Rattle.checker.proofs.Texts.{text-left}
+use Rattle.states.specs.EntryStates.{block-text, unless-missing, states-after, entry-states}
+use Rattle.states.specs.Stated.{longest-text, Written, HoldsStates}
 
 -- the text of a sheet
 
@@ -40,13 +39,13 @@ refused-none rule l e = rw (refuses-sheet l e)
 
 -- a sheet that was loaded has what its words say
 module _ {sheet : Bytes} {before after : List ℕ} {r : Loading.Loading} (rule : Rule) (l : Load sheet before after r) (e : r ≡ loading.Loaded) where
-  text-loaded : entry-states rule sheet ≡ unless-missing (missing-allocations (sheet-of after)) (blocks-text rule (sheet-of after) 0 (getD after blocks-word 0))
+  text-loaded : entry-states rule sheet ≡ unless-missing (missing-allocations (sheet-of after)) (by-block (block-text rule (sheet-of after)) 0 (getD after blocks-word 0))
   unfolding entry-states states-after sheet-of
   text-loaded =
       let s = loads-sheet l e in
-      rw (s .1) (ap (λ (S : Sheet). unless-missing (missing-allocations S) (blocks-text rule S 0 (S .blocks))) (sym (unfold sheet-of in l .meaning (s .0) (s .1) .0)))
+      rw (s .1) (ap (λ (S : Sheet). unless-missing (missing-allocations S) (by-block (block-text rule S) 0 (S .blocks))) (sym (unfold sheet-of in l .meaning (s .0) (s .1) .0)))
 
-  pub text-full : missing-allocations (sheet-of after) ≡ [] → entry-states rule sheet ≡ blocks-text rule (sheet-of after) 0 (getD after blocks-word 0)
+  pub text-full : missing-allocations (sheet-of after) ≡ [] → entry-states rule sheet ≡ by-block (block-text rule (sheet-of after)) 0 (getD after blocks-word 0)
   unfolding unless-missing
   text-full m = text-loaded ∙ rw m
 
@@ -76,7 +75,7 @@ module _ {rule : Rule} {words queue words′ queue′ : List ℕ} (loads : Loade
     marks = λ b h. rw (analysed-sheet loads a) (a .marks b (omega (arith, same-blocks)));
   }
 
-  pub same-text : blocks-text rule (sheet-of words′) 0 (getD words′ blocks-word 0) ≡ blocks-text rule (sheet-of words) 0 (getD words blocks-word 0)
+  pub same-text : by-block (block-text rule (sheet-of words′)) 0 (getD words′ blocks-word 0) ≡ by-block (block-text rule (sheet-of words)) 0 (getD words blocks-word 0)
   same-text = rw (analysed-sheet loads a, same-blocks)
 
 -- what was written
@@ -97,28 +96,8 @@ written-text e w h fits same-words same-queue = rw e (record {
 
 -- the outcome
 
-pub short-outcome : (text : Bytes) (before : Lent) → too-short before ≡ true → Stated text before before 0
-unfolding outcome
-short-outcome text before e = record { whole = rw e; fits = omega arith }
-
 pub stated : {text : Bytes} {out words queue out′ words₁ queue₁ words′ queue′ : List ℕ} {r : ℕ}
     → Written text out words queue out′ words₁ queue₁ r → words′ ≡ replicate (length words₁) 0 → queue′ ≡ replicate (length queue₁) 0
     → too-short (lent out words queue) ≡ false → Stated text (lent out words queue) (lent out′ words′ queue′) r
-unfolding outcome zeros
-stated {text} {out} p w q e = record {
-  whole = rw (e, w, q, p .same-words, p .same-queue, p .out-is, p .length-is);
-  fits = rw (p .length-is, p .out-is) (laid-length text out);
-}
-
--- what a program writes of an answer is stated the same way
-choice : (text : Bytes) (before after : Lent) (short : Bool)
-    → _≡_ {A = Outcome} (record { text-length = length (cond short [] text); lent = cond short before after }) (cond short (record { text-length = 0; lent = before }) (record { text-length = length text; lent = after }))
-choice text before after true = refl
-choice text before after false = refl
-
-pub answer-stated : {sheet : Bytes} {before after : Lent} {r : ℕ} (rule : Rule) → Texted rule sheet before after r → Stated (part-text Answer rule sheet) before after r
-unfolding part-text text-of lent-behind outcome
-answer-stated {sheet} {before} rule t = record {
-  whole = rw (t .length-is, t .lent-is) (choice (written (answer rule sheet)) before _ (too-short before));
-  fits = t .fits;
-}
+unfolding zeros
+stated p w q e = text-left e (p .length-is) (rw (w, q, p .same-words, p .same-queue, p .out-is))

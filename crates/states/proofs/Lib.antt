@@ -1,3 +1,2 @@
 pub mod Laws
 pub mod LawsCall
-pub mod Theorems

@@ -4,14 +4,14 @@
 use mathlib.Core.Bool.{Bool, true, false}
 use mathlib.Core.List.{List, [], _∷_, _++_, map}
 use mathlib.Core.Option.{Option, none, some}
-use Prim.Native.Nat.{ℕ, zero, suc}
+use Prim.Native.Nat.{ℕ}
 use Rattle.paper.specs.Text.{Bytes, digits, name-text}
 use Rattle.paper.specs.Sheet.{Sheet}
 use Rattle.paper.specs.Cells.{Cell, absent, unknown, conflicted, named}
 use Rattle.paper.specs.Steps.{State}
 use Rattle.paper.specs.Runs.{analysis, checked-from}
 use Rattle.paper.specs.Refusals.{Reading, loaded, refused, read}
-use Rattle.paper.specs.Report.{Line, nothing, behind-tabs, missing-allocations}
+use Rattle.paper.specs.Report.{Line, by-block, nothing, behind-tabs, missing-allocations}
 use Rattle.paper.specs.declared.Rule.{Rule}
 use Rattle.paper.specs.declared.Rule.the-variants.{Old, House}
 
@@ -45,11 +45,6 @@ letter-D = 68
 unfoldable pub block-text : Rule → Sheet → ℕ → Bytes
 block-text rule S b = letter-D ∷ behind-tabs (digits b ∷ visited-text rule ((analysis rule S) .table b) ∷ cell-texts (checked-from rule S b))
 
--- the lines of the n blocks from b on
-unfoldable pub blocks-text : Rule → Sheet → ℕ → ℕ → Bytes
-blocks-text rule S b zero = []
-blocks-text rule S b (suc n) = block-text rule S b ++ blocks-text rule S (suc b) n
-
 -- the text, where no allocation is missing
 unfoldable pub unless-missing : List Line → Bytes → Bytes
 unless-missing [] text = text
@@ -57,7 +52,7 @@ unless-missing (l ∷ ls) text = []
 
 unfoldable pub states-after : Rule → Reading → Bytes
 states-after rule (refused number line) = []
-states-after rule (loaded S) = unless-missing (missing-allocations S) (blocks-text rule S 0 (S .blocks))
+states-after rule (loaded S) = unless-missing (missing-allocations S) (by-block (block-text rule S) 0 (S .blocks))
 
 unfoldable pub entry-states : Rule → Bytes → Bytes
 entry-states rule sheet = states-after rule (read sheet)

@@ -1,6 +1,6 @@
--- What `entry_states` leaves behind, in one equation; and what its parts ask of the words and write.
+-- How long the text of entry states can get, what is compared of a sheet, and what the parts of `entry_states` ask of the words
+-- and write.
 use mathlib.Core.Path.{_≡_}
-use mathlib.Core.Bool.{cond}
 use mathlib.Core.List.{List, [], _∷_, _++_, map}
 use Prim.Native.Nat.{ℕ, _+_, _*_, _≤_, _<_}
 use lib.ListN.{length, getD}
@@ -8,7 +8,7 @@ use Rattle.lists.specs.Region.{region}
 use Rattle.paper.specs.Text.{Bytes, tab, digits}
 use Rattle.paper.specs.Limits.{max-regs, max-slots, max-blocks}
 use Rattle.paper.specs.Runs.{analysis, checked-from}
-use Rattle.paper.specs.Answer.{answer, written, Lent, too-short, laid, zeros}
+use Rattle.paper.specs.Answer.{answer, written, laid}
 use Rattle.paper.specs.declared.Rule.{Rule}
 use Rattle.layout.specs.Layout.{regs-word, slots-word, blocks-word, state-at, mark-at, run-words}
 use Rattle.cells.specs.Packed.{cell-of}
@@ -32,23 +32,6 @@ longest-line = longest-head + (1 + longest-cell) * (max-regs + max-slots) + 1
 
 abbrev pub longest-text : ℕ
 longest-text = longest-line * max-blocks
-
--- the length that is returned, and the lent buffers afterwards
-pub record Outcome : Type 0 where
-  pub text-length : ℕ
-  pub lent : Lent
-
--- buffers that `check` would refuse are left as they are; else the text stands at the start of the first, later bytes keep their
--- values, and the scratch is all zero
-unfoldable pub outcome : Bytes → Lent → Outcome
-outcome text before =
-    cond (too-short before) (record { text-length = 0; lent = before })
-    (record { text-length = length text; lent = record { report = laid text (before .report); words = zeros (before .words); queue = zeros (before .queue) } })
-
--- the whole of a call that leaves a text
-pub record Stated (text : Bytes) (before after : Lent) (r : ℕ) : Type 0 where
-  pub whole : _≡_ {A = Outcome} (record { text-length = r; lent = after }) (outcome text before)
-  pub fits : r ≤ length (after .report)
 
 -- what is compared of a sheet
 unfoldable pub part-text : Part → Rule → Bytes → Bytes

@@ -9,13 +9,14 @@ ghost use Rattle.paper.specs.Text.{tab};
 ghost use Rattle.paper.specs.Limits.{max-blocks, report-size, words-size, queue-size};
 ghost use Rattle.paper.specs.Cells as paper;
 ghost use Rattle.paper.specs.Steps as paper-steps;
+ghost use Rattle.paper.specs.Report.{by-block};
 ghost use Rattle.layout.specs.Layout.{blocks-word};
 ghost use Rattle.cells.specs.Packed.{name-of-word, marked, cell-of};
 ghost use Rattle.sheet.specs.Loaded.{sheet-of};
 ghost use Rattle.runs.specs.Table.{mark-of};
-ghost use Rattle.checker.specs.Checked.{lent};
+ghost use Rattle.checker.specs.Checked.{lent, Stated};
 ghost use Rattle.states.specs.EntryStates as text;
-ghost use Rattle.states.specs.Stated.{Stated, part-text, Written, HoldsStates, row-text, head-text, longest-cell, longest-head, longest-line, longest-text};
+ghost use Rattle.states.specs.Stated.{part-text, Written, HoldsStates, row-text, head-text, longest-cell, longest-head, longest-line, longest-text};
 use layout::BLOCKS_WORD;
 use layout::MARK_BASE;
 use layout::REGS_WORD;
@@ -114,7 +115,7 @@ fn write_block(rule: Rule, words: &[u16], out: &mut [u8], at: usize, b: usize) -
 // The lines of all blocks.
 fn write_blocks(rule: Rule, words: &[u16], out: &mut [u8]) -> usize
     requires { ⌜ HoldsStates rule (now words) × (report-size ≤ length (now out)) ⌝ }
-    ensures { λ r. ⌜ Wrote (now (out .entry)) 0 (text.blocks-text rule (sheet-of (now (words .entry))) 0 (getD (now (words .entry)) blocks-word 0)) (now (out .exit)) r × (r ≤ longest-text) ⌝ }
+    ensures { λ r. ⌜ Wrote (now (out .entry)) 0 (by-block (text.block-text rule (sheet-of (now (words .entry)))) 0 (getD (now (words .entry)) blocks-word 0)) (now (out .exit)) r × (r ≤ longest-text) ⌝ }
 {
     let blocks = words[BLOCKS_WORD] as usize;
     let mut next = 0;

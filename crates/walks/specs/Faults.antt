@@ -13,7 +13,7 @@ use Rattle.paper.specs.Sheet.{Step, spill, reload, move, change, operation, saf
 use Rattle.paper.specs.Cells.{Cell, absent, unknown, conflicted, named}
 use Rattle.paper.specs.Steps.{State, Location, slot, get, unreached-state, Fault, first-of, check-slot, check-slots, check, effect, effects}
 use Rattle.paper.specs.Runs.{meet-states, flow, analysis, entered, checked-from}
-use Rattle.paper.specs.Report.{Line, line-of, faults-from, block-faults, by-block, find-errors, kind-of}
+use Rattle.paper.specs.Report.{Line, inst-of, line-of, faults-from, block-faults, by-block, find-errors, kind-of}
 use Rattle.paper.specs.Walks.{In, here, there, along, HouseWalk, SameNames}
 use Rattle.paper.specs.declared.Rule.the-variants.{House}
 use Rattle.lists.specs.Split.{or-left}
@@ -113,17 +113,17 @@ record Reported (S : Sheet) (b place : ℕ) (xs : List Step) (s : State) (l : Li
 reported : (S : Sheet) (b place : ℕ) (xs : List Step) (s : State) (l : Line) → In l (faults-from House S b place xs s) → Reported S b place xs s l
 unfolding faults-from line-of effects
 reported S b place [] s l i = absurd (in-nil i)
-reported S b place (x ∷ xs) s l i = go (check x s) refl (in-append (line-of b place x (check x s)) _ i) (reported S b (suc place) xs s′ l)
+reported S b place (x ∷ xs) s l i = go (check x s) refl (in-append (line-of b place (inst-of x) (check x s)) _ i) (reported S b (suc place) xs s′ l)
   where
     s′ : State
     s′ = effect House (reference-typed S) x s
 
-    first : (o : Option Fault) → check x s ≡ o → In l (line-of b place x o) → Reported S b place (x ∷ xs) s l
+    first : (o : Option Fault) → check x s ≡ o → In l (line-of b place (inst-of x) o) → Reported S b place (x ∷ xs) s l
     first none e i = absurd (in-nil i)
     first (some f) e (here p) = record { block-is = ap (λ (k : Line). k .block) p; earlier = []; step = x; later = xs; splits = refl; at-place = omega (arith, ap (λ (k : Line). k .place) p); found = e ∙ ap (λ (k : Line). some (k .fault)) (sym p) }
     first (some f) e (there i) = absurd (in-nil i)
 
-    go : (o : Option Fault) → check x s ≡ o → In l (line-of b place x (check x s)) ⊎ In l (faults-from House S b (suc place) xs s′)
+    go : (o : Option Fault) → check x s ≡ o → In l (line-of b place (inst-of x) (check x s)) ⊎ In l (faults-from House S b (suc place) xs s′)
         → (In l (faults-from House S b (suc place) xs s′) → Reported S b (suc place) xs s′ l) → Reported S b place (x ∷ xs) s l
     go o e (inl i) rec = first (check x s) refl i
     go o e (inr i) rec =

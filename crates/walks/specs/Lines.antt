@@ -10,7 +10,7 @@ use native.Mathlib.Decide.{ℕ-discrete}
 use Rattle.paper.specs.Sheet.{Step, Sheet, steps-of, reference-typed}
 use Rattle.paper.specs.Steps.{State, Fault, check, effect}
 use Rattle.paper.specs.Runs.{checked-from}
-use Rattle.paper.specs.Report.{Line, line-of, faults-from, block-faults, by-block, find-errors, first-list, missing-allocations, faults}
+use Rattle.paper.specs.Report.{Line, inst-of, line-of, faults-from, block-faults, by-block, find-errors, first-list, missing-allocations, faults}
 use Rattle.paper.specs.Walks.{Passes}
 use Rattle.paper.specs.declared.Rule.the-variants.{House}
 
@@ -27,7 +27,7 @@ module _ (S : Sheet) where
       s′ : State
       s′ = effect House (reference-typed S) x s
 
-      go : (o : Option Fault) → check x s ≡ o → line-of b place x o ++ faults-from House S b (suc place) xs s′ ≡ []
+      go : (o : Option Fault) → check x s ≡ o → line-of b place (inst-of x) o ++ faults-from House S b (suc place) xs s′ ≡ []
           → (faults-from House S b (suc place) xs s′ ≡ [] → Passes (reference-typed S) xs s′) → (check x s ≡ none) × Passes (reference-typed S) xs s′
       go none q f rec = (q, rec f)
       go (some w) q f rec = absurd (nil≢cons (sym f))

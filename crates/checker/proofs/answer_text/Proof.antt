@@ -73,8 +73,7 @@ returns-4 : tie.Need-returns-4
 returns-4 c =
     let k = c .before .before .before .before .before .before .before .before .before .before .before .before .before .before .check .ensures in
     let e = c .before .before .before .before .before .before .said3 .given .1 in
-    let w = rw e at (k .within) in
-    texted-refusal k _ _ e (c .before .before .before .before .if1 .left) (w .0) (w .1) (c .before .before .write-refusal .ensures)
+    texted-refusal k _ _ e (c .before .before .before .before .if1 .left) (c .before .before .write-refusal .ensures)
 
 pub answer-text-spec : {M : Type 1} → statement M
 answer-text-spec =

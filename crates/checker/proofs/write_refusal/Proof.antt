@@ -1,7 +1,8 @@
 -- `checker::write_refusal` meets its contract: its four parts, one behind the other, and there is room for each.
 use native.Mathlib.Omega.{arith}
 use Rattle.lists.specs.Sets.{then, length-wrote}
-use Rattle.checker.proofs.Texts.{digits-short, refusal-wrote}
+use Rattle.fields.specs.Spelling.{length-digits}
+use Rattle.checker.proofs.Texts.{refusal-wrote}
 use borrow.Author.Needs.{needs}
 use Rattle.checker.proofs.write_refusal.Statement.{statement}
 use Rattle.checker.proofs.write_refusal.Tie as tie
@@ -10,16 +11,16 @@ write-byte-requires : tie.Need-write-byte-requires
 write-byte-requires c κs = search needs
 
 write-before-number-requires : tie.Need-write-before-number-requires
-write-before-number-requires c κs = omega (arith, length-wrote (c .before .before .before .write-byte .ensures), digits-short (c .before .before .before .before .before .before .args .number) (omega arith))
+write-before-number-requires c κs = omega (arith, length-wrote (c .before .before .before .write-byte .ensures), length-digits (c .before .before .before .before .before .before .args .number))
 
 cast-write-before-number : tie.Need-cast-write-before-number
 cast-write-before-number c = search needs
 
 write-before-number-requires-2 : tie.Need-write-before-number-requires-2
-write-before-number-requires-2 c κs = omega (arith, length-wrote (c .before .before .before .before .before .before .before .write-byte .ensures), length-wrote (c .before .before .before .write-before-number .ensures), digits-short (c .before .before .before .before .before .before .before .before .before .before .args .number) (omega arith), digits-short (c .before .before .before .before .before .before .before .before .before .before .args .line) (omega arith))
+write-before-number-requires-2 c κs = omega (arith, length-wrote (c .before .before .before .before .before .before .before .write-byte .ensures), length-wrote (c .before .before .before .write-before-number .ensures), length-digits (c .before .before .before .before .before .before .before .before .before .before .args .number), length-digits (c .before .before .before .before .before .before .before .before .before .before .args .line))
 
 write-byte-requires-2 : tie.Need-write-byte-requires-2
-write-byte-requires-2 c κs = omega (arith, length-wrote (c .before .before .before .before .before .before .before .before .before .before .before .write-byte .ensures), length-wrote (c .before .before .before .before .before .before .before .write-before-number .ensures), length-wrote (c .before .before .before .write-before-number2 .ensures), digits-short (c .before .before .before .before .before .before .before .before .before .before .before .before .before .before .args .number) (omega arith), digits-short (c .before .before .before .before .before .before .before .before .before .before .before .before .before .before .args .line) (omega arith))
+write-byte-requires-2 c κs = omega (arith, length-wrote (c .before .before .before .before .before .before .before .before .before .before .before .write-byte .ensures), length-wrote (c .before .before .before .before .before .before .before .write-before-number .ensures), length-wrote (c .before .before .before .write-before-number2 .ensures), length-digits (c .before .before .before .before .before .before .before .before .before .before .before .before .before .before .args .number), length-digits (c .before .before .before .before .before .before .before .before .before .before .before .before .before .before .args .line))
 
 same-length : tie.Need-same-length
 same-length c = search needs

@@ -11,10 +11,10 @@ cast-write-before-number : tie.Need-cast-write-before-number
 cast-write-before-number c = search needs
 
 write-before-number-requires : tie.Need-write-before-number-requires
-write-before-number-requires c κs = omega (arith, length-digits (c .before .before .args .n) (omega arith))
+write-before-number-requires c κs = omega (arith, length-digits (c .before .before .args .n))
 
 write-byte-requires : tie.Need-write-byte-requires
-write-byte-requires c κs = omega (arith, length-digits (c .before .before .before .before .before .before .args .n) (omega arith))
+write-byte-requires c κs = omega (arith, length-digits (c .before .before .before .before .before .before .args .n))
 
 same-length : tie.Need-same-length
 same-length c = search needs
@@ -23,7 +23,7 @@ returns : tie.Need-returns
 unfolding frame-head
 returns c = let w = c .before .before in
     let n = w .before .before .before .before in
-    (then (n .write-before-number .ensures) (w .write-byte .ensures), omega (arith, length-digits (n .before .before .before .args .n) (omega arith)))
+    (then (n .write-before-number .ensures) (w .write-byte .ensures), omega (arith, length-digits (n .before .before .before .args .n)))
 
 pub write-head-spec : {M : Type 1} → statement M
 write-head-spec =

@@ -1,8 +1,7 @@
 -- `write_header` meets its contract: its five parts, one behind the other; the room asked for is the sum of theirs (`header-room`).
 use native.Mathlib.Omega.{arith}
 use Rattle.lists.specs.Sets.{then}
-use Rattle.paper.specs.Report.{behind-tabs}
-use Rattle.report.specs.Lines.{header-text}
+use Rattle.paper.specs.Report.{behind-tabs, header-text}
 use Rattle.report.proofs.LawsLines.{header-room}
 use borrow.Author.Needs.{needs}
 use Rattle.report.proofs.write_header.Statement.{statement}

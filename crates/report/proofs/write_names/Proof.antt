@@ -5,9 +5,8 @@ use Prim.Native.Nat.{_+_, _*_, _-_, _≤_}
 use native.Mathlib.Omega.{arith}
 use lib.ListN.{length}
 use Rattle.lists.specs.Sets.{Wrote}
-use Rattle.paper.specs.Report.{unallocated, lines-text}
+use Rattle.paper.specs.Report.{unallocated, lines-text, names-lines}
 use Rattle.steps.specs.Actions.{operands}
-use Rattle.report.specs.Missing.{names-lines}
 use Rattle.report.proofs.LawsOperands.{wrote-none, wrote-more}
 use borrow.Author.Needs.{needs}
 use Rattle.report.proofs.write_names.Statement.{statement}

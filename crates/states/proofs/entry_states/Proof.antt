@@ -2,7 +2,8 @@
 use mathlib.Core.Path.{sym, _∙_}
 use native.Mathlib.Omega.{arith}
 use Rattle.checker.specs.Lengths.{long}
-use Rattle.states.proofs.LawsCall.{short-outcome, stated}
+use Rattle.checker.proofs.Texts.{short-outcome}
+use Rattle.states.proofs.LawsCall.{stated}
 use borrow.Author.Needs.{needs}
 use Rattle.states.proofs.entry_states.Statement.{statement}
 use Rattle.states.proofs.entry_states.Tie as tie

@@ -1,6 +1,5 @@
 -- `text_of` meets its contract: each part is stated by the function that writes it.
 use Rattle.states.specs.Stated.{part-text}
-use Rattle.states.proofs.LawsCall.{answer-stated}
 use borrow.Author.Needs.{needs}
 use Rattle.states.proofs.text_of.Statement.{statement}
 use Rattle.states.proofs.text_of.Tie as tie
@@ -27,7 +26,8 @@ same-length-3 : tie.Need-same-length-3
 same-length-3 c = search needs
 
 returns : tie.Need-returns
-returns c = rw (c .before .before .before .before .before .before .before .before .before .before .enum-told .given .1) (answer-stated (c .before .before .before .before .before .before .before .before .before .before .before .before .before .before .before .before .args .rule) (c .before .before .before .before .before .before .answer-text .ensures))
+unfolding part-text
+returns c = rw (c .before .before .before .before .before .before .before .before .before .before .enum-told .given .1) (c .before .before .before .before .before .before .answer-text .ensures)
 
 same-length-4 : tie.Need-same-length-4
 same-length-4 c = search needs

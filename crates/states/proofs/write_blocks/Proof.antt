@@ -6,7 +6,8 @@ use lib.ListN.{length, getD}
 use Rattle.layout.specs.Layout.{blocks-word}
 use Rattle.lists.specs.Sets.{Wrote}
 use Rattle.sheet.specs.Loaded.{sheet-of}
-use Rattle.states.specs.EntryStates.{blocks-text}
+use Rattle.paper.specs.Report.{by-block}
+use Rattle.states.specs.EntryStates.{block-text}
 use Rattle.states.specs.Stated.{longest-line}
 use Rattle.states.proofs.Laws.{blocks-none, blocks-then}
 use borrow.Author.Needs.{needs}
@@ -15,7 +16,7 @@ use Rattle.states.proofs.write_blocks.Tie as tie
 
 abbrev Inv-loop : tie.InvT-loop
 Inv-loop rule words out₀ blocks next₀ b₀ out next b =
-    (b ≤ blocks) × (next ≤ longest-line * b) × (length out ≡ length out₀) × Wrote out₀ 0 (blocks-text rule (sheet-of words) 0 b) out next
+    (b ≤ blocks) × (next ≤ longest-line * b) × (length out ≡ length out₀) × Wrote out₀ 0 (by-block (block-text rule (sheet-of words)) 0 b) out next
 
 abbrev μ-loop : tie.MeasureT-loop
 μ-loop rule words out₀ blocks next₀ b₀ out next b = blocks - b
