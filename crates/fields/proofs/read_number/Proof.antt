@@ -35,31 +35,45 @@ ends-field-requires c κs = search needs
 is-digit-requires : tie.Need-is-digit-requires Inv-loop μ-loop
 is-digit-requires c κs = search needs
 
--- behind the test that the byte ends no field, and behind the test that it is a digit
-inner : (c : tie.Else1 Inv-loop μ-loop) → ends-field (getD (c .before .before .before .before .before .before .args .s .now) (c .before .before .before .before .loop .i) 0) ≡ false
+-- the turn, behind the test that the byte ends no field, behind the test that it is a digit, and behind all tests
+abbrev turn1 : tie.Else1 Inv-loop μ-loop → tie.In-loop Inv-loop μ-loop
+turn1 c = c .before .before .before
+
+abbrev turn2 : tie.Else2 Inv-loop μ-loop → tie.In-loop Inv-loop μ-loop
+turn2 c = turn1 (c .before .before)
+
+abbrev turn4 : tie.Else4 Inv-loop μ-loop → tie.In-loop Inv-loop μ-loop
+turn4 c = turn2 (c .before .before)
+
+abbrev start-of : tie.In-loop Inv-loop μ-loop → tie.Start Inv-loop μ-loop
+start-of c = c .before .before .before
+
+inner : (c : tie.Else1 Inv-loop μ-loop) →
+    let l = turn1 c in ends-field (getD (start-of l .args .s .now) (l .before .loop .i) 0) ≡ false
 inner c = sym (c .before .ends-field .ensures) ∙ c .if1 .left
 
-digit : (c : tie.Else2 Inv-loop μ-loop) → is-digit (getD (c .before .before .before .before .before .before .before .before .args .s .now) (c .before .before .before .before .before .before .loop .i) 0) ≡ true
+digit : (c : tie.Else2 Inv-loop μ-loop) →
+    let l = turn2 c in is-digit (getD (start-of l .args .s .now) (l .before .loop .i) 0) ≡ true
 digit c = sym (c .before .is-digit .ensures) ∙ not-false _ (c .if2 .left)
 
 returns : tie.Need-returns Inv-loop μ-loop
 returns c =
-    let l = c .before .before .before .before .before in
+    let l = turn1 (c .before .before) in
     (bad-digit (l .before .loop .inv) (l .loop-test .taken) (inner (c .before .before)) (sym (c .before .is-digit .ensures) ∙ not-true _ (c .if2 .taken)), tt)
 
 returns-2 : tie.Need-returns-2 Inv-loop μ-loop
 returns-2 c =
-    let l = c .before .before .before .before .before .before in
+    let l = turn2 (c .before) in
     (bad-count (l .before .loop .inv) (l .loop-test .taken) (inner (c .before .before .before)) (c .if3 .taken), tt)
 
 returns-3 : tie.Need-returns-3 Inv-loop μ-loop
 returns-3 c =
-    let l = c .before .before .before .before .before .before .before in
+    let l = turn2 (c .before .before) in
     (bad-lead (l .before .loop .inv) (l .loop-test .taken) (inner (c .before .before .before .before)) (c .if4 .taken), tt)
 
-small : (c : tie.Else4 Inv-loop μ-loop) → c .before .before .before .before .before .before .before .before .loop .v < 100000
+small : (c : tie.Else4 Inv-loop μ-loop) → turn4 c .before .loop .v < 100000
 small c =
-    let l = c .before .before .before .before .before .before .before .before .loop in
+    let l = turn4 c .before .loop in
     omega (arith, l .inv .small, lim-small (l .n) (l .inv .most))
 
 mul-v : tie.Need-mul-v Inv-loop μ-loop
@@ -85,8 +99,10 @@ loop-less c = search needs
 
 loop-again : tie.Need-loop-again Inv-loop μ-loop
 loop-again c =
-    let l = c .before .before .before .before .before .before .before in
-    digits-more (l .before .loop .inv) (l .loop-test .taken) (inner (c .before .before .before .before)) (digit (c .before .before)) (c .before .if3 .left) (c .if4 .left)
+    let l = turn4 c in
+    let d = c .before .before in
+    digits-more (l .before .loop .inv) (l .loop-test .taken) (inner (d .before .before)) (digit d) (c .before .if3 .left)
+    (c .if4 .left)
 
 -- after the loop, left by its test or by the `break`
 ended : (c : tie.Left-loop Inv-loop μ-loop) → field-at (c .before .before .before .args .s .now) (c .before .loop .i) ≡ []

@@ -14,7 +14,7 @@ use Rattle.records.proofs.any_beyond.Reads as reads
 use Rattle.records.proofs.any_beyond.Lts as lts
 
 abbrev Inv-loop : tie.InvT-loop
-Inv-loop count limit values i₀ i = (i ≤ count) × (any (leb limit) (take count values) ≡ any (leb limit) (drop i (take count values)))
+Inv-loop count limit values i₀ i = any (leb limit) (take count values) ≡ any (leb limit) (drop i (take count values))
 
 abbrev μ-loop : tie.MeasureT-loop
 μ-loop count limit values i₀ i = count - i
@@ -23,7 +23,7 @@ room : (c : lts.Start reads.Pre reads.Post Inv-loop μ-loop) → c .args .count 
 room c = omega (arith, c .good .0 .1 .0 .1)
 
 loop-holds : tie.Need-loop-holds Inv-loop μ-loop
-loop-holds c = (omega arith, refl)
+loop-holds c = refl
 
 mul-if1 : tie.Need-mul-if1 Inv-loop μ-loop
 mul-if1 c = search needs
@@ -34,7 +34,7 @@ array-read-if1 c = search needs
 returns : tie.Need-returns Inv-loop μ-loop
 returns c =
     let l = c .before .before in
-    sym (l .loop .inv .1 ∙ any-here _ _ _ (room (l .before)) _ 0 _ (c .before .loop-test .taken) refl (le-leb _ _ (c .if1 .taken)))
+    sym (l .loop .inv ∙ any-here _ _ _ (room (l .before)) _ 0 _ (c .before .loop-test .taken) refl (le-leb _ _ (c .if1 .taken)))
 
 add-i : tie.Need-add-i Inv-loop μ-loop
 add-i c = search needs
@@ -45,10 +45,10 @@ loop-less c = search needs
 loop-again : tie.Need-loop-again Inv-loop μ-loop
 loop-again c =
     let l = c .before .before in
-    (omega arith, l .loop .inv .1 ∙ any-on _ _ _ (room (l .before)) _ 0 _ (c .before .loop-test .taken) refl (lt-leb _ _ (c .if1 .left)))
+    l .loop .inv ∙ any-on _ _ _ (room (l .before)) _ 0 _ (c .before .loop-test .taken) refl (lt-leb _ _ (c .if1 .left))
 
 returns-2 : tie.Need-returns-2 Inv-loop μ-loop
-returns-2 c = sym (c .before .loop .inv .1 ∙ any-past _ _ _ (room (c .before .before)) _ (c .loop-test .left))
+returns-2 c = sym (c .before .loop .inv ∙ any-past _ _ _ (room (c .before .before)) _ (c .loop-test .left))
 
 pub any-beyond-spec : {M : Type 1} → statement M
 any-beyond-spec =

@@ -4,22 +4,59 @@ use mathlib.Core.Path.{_≡_, sym, _∙_}
 use mathlib.Core.Bool.{not, Bool·beq}
 use native.Mathlib.Omega.{arith}
 use borrow.Author.Tests.{not-true, not-false}
+use mathlib.Core.Option.{some}
+use Rattle.paper.specs.Sheet.{Sheet, change}
+use Rattle.paper.specs.Refusals.{step-record}
+use Rattle.records.specs.Records.{verdict, name-of-code, Counted, TypedBy}
+use Rattle.records.specs.Parts.{ChangeRead}
 use Rattle.records.proofs.LawsTold.{no-form, refused-line, well-formed}
 use Rattle.records.proofs.LawsSteps.{ChangeClear, change-judged, change-clear, change-within}
 use borrow.Author.Needs.{needs}
 use Rattle.records.proofs.change_line.Statement.{statement}
 use Rattle.records.proofs.change_line.Tie as tie
 
+-- the places: past the first test, both names judged; what was read, and what was given
+abbrev beyond-of : tie.After-lowest → tie.After-name-beyond2
+beyond-of c = c .before .before .before
+
+abbrev good-of : tie.After-lowest → tie.Else1
+good-of c = beyond-of c .before .before .before
+
+abbrev read-of : tie.Else1 → tie.After-read-change
+read-of c = c .before .before
+
+abbrev start-of : tie.Else1 → tie.Start
+start-of c = read-of c .before .before .before
+
+got : (c : tie.Else1) → ChangeRead (start-of c .args .s .now) (start-of c .args .at) (read-of c .read-change .result)
+got c = c .before .before .read-change .ensures .0 (not-false _ (c .if1 .left))
+
+-- the number is the paper's for what was read
+judged : (l : tie.After-lowest) → let s = start-of (good-of l) .args in let v = read-of (good-of l) .read-change .result in
+    (S : Sheet) → Counted S (s .counts) → TypedBy S (s .typed .now)
+    → l .lowest .result ≡ verdict S (some (step-record
+    (change (v .inst) (v .slot) (name-of-code (v .from)) (name-of-code (v .to)))))
+judged l S h t =
+    let f = l .before in
+    let n = beyond-of l in
+    change-judged (start-of (good-of l) .pre .2) _ _ _ _ (n .before .name-beyond .ensures) (n .name-beyond2 .ensures) h t
+    (f .before .refers .ensures)
+    (f .refers2 .ensures)
+    (l .lowest .ensures)
+
 -- where nothing is broken the values are within the counts
 clear : (l : tie.After-lowest) → l .lowest .result ≡ 0
-    → let v = l .before .before .before .before .before .before .before .before .read-change .result in
-    ChangeClear (l .before .before .before .before .before .before .before .before .before .before .before .args .counts) (v .inst) (v .slot) (v .from) (v .to)
+    → let v = read-of (good-of l) .read-change .result in
+    ChangeClear (start-of (good-of l) .args .counts) (v .inst) (v .slot) (v .from) (v .to)
 clear l z =
     let f = l .before in
-    let n = f .before .before in
-    let e = n .before .before .before in
-    let v = e .before .before .read-change .result in
-    change-clear (e .before .before .before .before .before .pre .2) (v .inst) (v .slot) (v .from) (v .to) (n .before .name-beyond .ensures) (n .name-beyond2 .ensures) (not (Bool·beq (f .before .refers .result) (f .refers2 .result))) (l .lowest .ensures) z
+    let n = beyond-of l in
+    let v = read-of (good-of l) .read-change .result in
+    change-clear (start-of (good-of l) .pre .2) (v .inst) (v .slot) (v .from) (v .to) (n .before .name-beyond .ensures)
+    (n .name-beyond2 .ensures)
+    (not (Bool·beq (f .before .refers .result) (f .refers2 .result)))
+    (l .lowest .ensures)
+    z
 
 read-change-requires : tie.Need-read-change-requires
 read-change-requires c κs = search needs
@@ -54,15 +91,8 @@ no-change-requires-2 c κs = search needs
 returns-2 : tie.Need-returns-2
 returns-2 c =
     let l = c .before .before in
-    let f = l .before in
-    let n = f .before .before in
-    let e = n .before .before .before in
-    let g = e .before .before .read-change .ensures .0 (not-false _ (e .if1 .left)) in
-    let w = e .before .before .before .before .before .pre .2 in (
-      λ S h t.
-          refused-line (c .no-change2 .ensures .0) (c .no-change2 .ensures .1) (g .says)
-          (change-judged w _ _ _ _ (n .before .name-beyond .ensures) (n .name-beyond2 .ensures) h t (f .before .refers .ensures) (f .refers2 .ensures) (l .lowest .ensures))
-          (c .before .if2 .taken)
+    let g = got (good-of l) in (
+      λ S h t. refused-line (c .no-change2 .ensures .0) (c .no-change2 .ensures .1) (g .says) (judged l S h t) (c .before .if2 .taken)
           (g .ends),
       λ z. absurd (c .before .if2 .taken (sym (c .no-change2 .ensures .0) ∙ z)),
     )
@@ -80,14 +110,10 @@ returns-3 : tie.Need-returns-3
 returns-3 c =
     let l = c .before .before .before in
     let z = c .before .before .if2 .left in
-    let f = l .before in
-    let n = f .before .before in
-    let e = n .before .before .before in
-    let g = e .before .before .read-change .ensures .0 (not-false _ (e .if1 .left)) in
-    let w = e .before .before .before .before .before .pre .2 in (
+    let g = got (good-of l) in (
       λ S h t.
           rw (c .before .name-word .ensures, c .name-word2 .ensures, clear l z .from-means, clear l z .to-means)
-          (well-formed (g .says) (change-judged w _ _ _ _ (n .before .name-beyond .ensures) (n .name-beyond2 .ensures) h t (f .before .refers .ensures) (f .refers2 .ensures) (l .lowest .ensures)) (g .ends)),
+          (well-formed (g .says) (judged l S h t) (g .ends)),
       λ y. change-within (clear l z) (c .before .name-word .ensures) (c .name-word2 .ensures),
     )
 

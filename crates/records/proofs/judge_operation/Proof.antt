@@ -6,6 +6,12 @@ use borrow.Author.Needs.{needs}
 use Rattle.records.proofs.judge_operation.Statement.{statement}
 use Rattle.records.proofs.judge_operation.Tie as tie
 
+abbrev start-of : tie.Else1 → tie.Start
+start-of c = c .before .before .before
+
+abbrev within-of : tie.After-registers → tie.Else1
+within-of c = c .before .before .before
+
 group-beyond-requires : tie.Need-group-beyond-requires
 group-beyond-requires c κs = search needs
 
@@ -21,26 +27,30 @@ returns c =
     λ us ds ku kd. operation-beyond ku kd _ _ (g .before .group-beyond .ensures) (g .group-beyond2 .ensures) (c .before .if1 .taken) (c .lowest .ensures)
 
 -- where the tests of the limits fail, both groups are held whole
-used-few : (c : tie.Else1) → c .before .before .before .args .uses .count ≤ 8
-used-few c = group-few _ _ (c .before .before .group-beyond .ensures) (uses-pass (c .before .before .before .args .inst) _ (c .before .group-beyond2 .result) (c .if1 .left))
+used-few : (c : tie.Else1) → start-of c .args .uses .count ≤ 8
+used-few c = group-few _ _ (c .before .before .group-beyond .ensures)
+    (uses-pass (start-of c .args .inst) _ (c .before .group-beyond2 .result) (c .if1 .left))
 
-defined-few : (c : tie.Else1) → c .before .before .before .args .defs .count ≤ 8
-defined-few c = group-few _ _ (c .before .group-beyond2 .ensures) (defs-pass (c .before .before .before .args .inst) (c .before .before .group-beyond .result) _ (c .if1 .left))
+defined-few : (c : tie.Else1) → start-of c .args .defs .count ≤ 8
+defined-few c = group-few _ _ (c .before .group-beyond2 .ensures)
+    (defs-pass (start-of c .args .inst) (c .before .before .group-beyond .result) _ (c .if1 .left))
 
 repeated-requires : tie.Need-repeated-requires
-repeated-requires c κs = used-few (c .before .before .before)
+repeated-requires c κs = used-few (within-of c)
 
 repeated-requires-2 : tie.Need-repeated-requires-2
-repeated-requires-2 c κs = defined-few (c .before .before .before .before)
+repeated-requires-2 c κs = defined-few (within-of (c .before))
 
 repeated-requires-3 : tie.Need-repeated-requires-3
-repeated-requires-3 c κs = defined-few (c .before .before .before .before .before)
+repeated-requires-3 c κs = defined-few (within-of (c .before .before))
 
 any-elsewhere-requires : tie.Need-any-elsewhere-requires
-any-elsewhere-requires c κs = let e = c .before .before .before .before .before .before in (e .before .before .before .pre .0, used-few e)
+any-elsewhere-requires c κs = let e = within-of (c .before .before .before) in (start-of e .pre .0, used-few e)
 
 any-elsewhere-requires-2 : tie.Need-any-elsewhere-requires-2
-any-elsewhere-requires-2 c κs = let e = c .before .before .before .before .before .before .before in (e .before .before .before .pre .1, defined-few e)
+any-elsewhere-requires-2 c κs =
+    let e = within-of (c .before .before .before .before) in
+    (start-of e .pre .1, defined-few e)
 
 lowest-requires-2 : tie.Need-lowest-requires-2
 lowest-requires-2 c κs = search needs
@@ -49,10 +59,12 @@ returns-2 : tie.Need-returns-2
 returns-2 c =
     let l = c .before in
     let r = l .before .before in
-    let e = r .before .before .before .before .before .before in
+    let e = within-of (r .before .before .before) in
     let g = e .before in
     λ us ds ku kd.
-    operation-judged ku kd _ _ (g .before .group-beyond .ensures) (g .group-beyond2 .ensures) (e .if1 .left) (r .before .before .repeated .ensures) (r .before .repeated2 .ensures) (r .repeated3 .ensures) (l .before .any-elsewhere .ensures) (l .any-elsewhere2 .ensures) (c .lowest2 .ensures)
+    operation-judged ku kd _ _ (g .before .group-beyond .ensures) (g .group-beyond2 .ensures) (e .if1 .left)
+    (r .before .before .repeated .ensures) (r .before .repeated2 .ensures) (r .repeated3 .ensures)
+    (l .before .any-elsewhere .ensures) (l .any-elsewhere2 .ensures) (c .lowest2 .ensures)
 
 pub judge-operation-spec : {M : Type 1} → statement M
 judge-operation-spec =

@@ -1,7 +1,7 @@
 -- `records::read_change` meets its contract: the fields are taken in the paper's order, each where the last one ended; a bad one,
 -- or one too many, leaves no `C`.
-use mathlib.Core.Path.{sym, _∙_}
-use mathlib.Core.Bool.{true≢false}
+use mathlib.Core.Path.{_≡_, sym, _∙_}
+use mathlib.Core.Bool.{Bool, true, false, true≢false}
 use Rattle.fields.specs.declared.Number.the-variants.{Value}
 use Rattle.records.specs.Records.{NumberBehind, NameBehind}
 use Rattle.records.proofs.LawsSteps.{change-no-inst, change-no-slot, change-no-from, change-no-to, change-too-long, change-says, change-ends}
@@ -9,21 +9,41 @@ use borrow.Author.Needs.{needs}
 use Rattle.records.proofs.read_change.Statement.{statement}
 use Rattle.records.proofs.read_change.Tie as tie
 
--- what each field that was taken tells
-got-inst : (c : tie.After-inst) → NumberBehind (c .before .before .before .before .args .s .now) (c .before .before .before .before .args .at) (Value (c .inst .given .0 .0) (c .inst .given .0 .1 .0))
-got-inst c = rw (c .inst .given .1) at (c .before .before .number-behind .ensures)
+abbrev start-of : tie.After-inst → tie.Start
+start-of c = c .before .before .before .before
 
 abbrev inst-of : tie.After-slot → tie.After-inst
 inst-of c = c .before .before .before .before
 
-got-slot : (c : tie.After-slot) → NumberBehind (c .before .before .before .before .before .before .before .before .args .s .now) (c .before .before .before .before .inst .given .0 .1 .0) (Value (c .slot .given .0 .0) (c .slot .given .0 .1 .0))
+abbrev slot-of : tie.After-from → tie.After-slot
+slot-of c = c .before .before .before .before
+
+abbrev from-of : tie.After-to → tie.After-from
+from-of c = c .before .before .before .before
+
+-- what each field that was taken tells
+got-inst : (c : tie.After-inst)
+    → NumberBehind (start-of c .args .s .now) (start-of c .args .at) (Value (c .inst .given .0 .0) (c .inst .given .0 .1 .0))
+got-inst c = rw (c .inst .given .1) at (c .before .before .number-behind .ensures)
+
+got-slot : (c : tie.After-slot)
+    → NumberBehind (start-of (inst-of c) .args .s .now) (inst-of c .inst .given .0 .1 .0)
+    (Value (c .slot .given .0 .0) (c .slot .given .0 .1 .0))
 got-slot c = rw (c .slot .given .1) at (c .before .before .number-behind2 .ensures)
 
-got-from : (c : tie.After-from) → NameBehind (c .before .before .before .before .before .before .before .before .before .before .before .before .args .s .now) (c .before .before .before .before .slot .given .0 .1 .0) (Value (c .from .given .0 .0) (c .from .given .0 .1 .0))
+got-from : (c : tie.After-from) → let k = slot-of c in
+    NameBehind (start-of (inst-of k) .args .s .now) (k .slot .given .0 .1 .0)
+    (Value (c .from .given .0 .0) (c .from .given .0 .1 .0))
 got-from c = rw (c .from .given .1) at (c .before .before .name-behind .ensures)
 
-got-to : (c : tie.After-to) → NameBehind (c .before .before .before .before .before .before .before .before .before .before .before .before .before .before .before .before .args .s .now) (c .before .before .before .before .from .given .0 .1 .0) (Value (c .to .given .0 .0) (c .to .given .0 .1 .0))
+got-to : (c : tie.After-to) → let f = from-of c in
+    NameBehind (start-of (inst-of (slot-of f)) .args .s .now) (f .from .given .0 .1 .0)
+    (Value (c .to .given .0 .0) (c .to .given .0 .1 .0))
 got-to c = rw (c .to .given .1) at (c .before .before .name-behind2 .ensures)
+
+-- a bad `C` tells nothing of a good one
+not-good : {good : Bool} {A : Type 0} → good ≡ false → good ≡ true → A
+not-good bad e = absurd (true≢false (sym e ∙ bad))
 
 number-behind-requires : tie.Need-number-behind-requires
 number-behind-requires c κs = search needs
@@ -38,7 +58,10 @@ bad-change-requires : tie.Need-bad-change-requires
 bad-change-requires c κs = search needs
 
 returns : tie.Need-returns
-returns c = (λ e. absurd (true≢false (sym e ∙ c .bad-change .ensures .0)), λ e. change-no-inst _ _ (rw (c .before .enum-told .given .1) at (c .before .before .before .number-behind .ensures)))
+returns c = (
+  not-good (c .bad-change .ensures .0),
+  λ e. change-no-inst _ _ (rw (c .before .enum-told .given .1) at (c .before .before .before .number-behind .ensures)),
+)
 
 number-behind-requires-2 : tie.Need-number-behind-requires-2
 number-behind-requires-2 c κs = got-inst (c .before) .0 .behind
@@ -53,7 +76,11 @@ bad-change-requires-2 : tie.Need-bad-change-requires-2
 bad-change-requires-2 c κs = search needs
 
 returns-2 : tie.Need-returns-2
-returns-2 c = let k = c .before .before .before in (λ e. absurd (true≢false (sym e ∙ c .bad-change2 .ensures .0)), λ e. change-no-slot (got-inst (k .before .before) .0) (rw (c .before .enum-told2 .given .1) at (k .number-behind2 .ensures)))
+returns-2 c =
+    let k = c .before .before .before in (
+      not-good (c .bad-change2 .ensures .0),
+      λ e. change-no-slot (got-inst (k .before .before) .0) (rw (c .before .enum-told2 .given .1) at (k .number-behind2 .ensures)),
+    )
 
 name-behind-requires : tie.Need-name-behind-requires
 name-behind-requires c κs = got-slot (c .before) .0 .behind
@@ -71,7 +98,8 @@ returns-3 : tie.Need-returns-3
 returns-3 c =
     let f = c .before .before .before in
     let k = f .before .before in
-    (λ e. absurd (true≢false (sym e ∙ c .bad-change3 .ensures .0)), λ e. change-no-from (got-inst (inst-of k) .0) (got-slot k .0) (rw (c .before .enum-told3 .given .1) at (f .name-behind .ensures)))
+    let told = rw (c .before .enum-told3 .given .1) at (f .name-behind .ensures) in
+    (not-good (c .bad-change3 .ensures .0), λ e. change-no-from (got-inst (inst-of k) .0) (got-slot k .0) told)
 
 name-behind-requires-2 : tie.Need-name-behind-requires-2
 name-behind-requires-2 c κs = got-from (c .before) .0 .behind
@@ -89,8 +117,9 @@ returns-4 : tie.Need-returns-4
 returns-4 c =
     let t = c .before .before .before in
     let f = t .before .before in
-    let k = f .before .before .before .before in
-    (λ e. absurd (true≢false (sym e ∙ c .bad-change4 .ensures .0)), λ e. change-no-to (got-inst (inst-of k) .0) (got-slot k .0) (got-from f .0) (rw (c .before .enum-told4 .given .1) at (t .name-behind2 .ensures)))
+    let k = slot-of f in
+    let told = rw (c .before .enum-told4 .given .1) at (t .name-behind2 .ensures) in
+    (not-good (c .bad-change4 .ensures .0), λ e. change-no-to (got-inst (inst-of k) .0) (got-slot k .0) (got-from f .0) told)
 
 shared-slice-read-if1 : tie.Need-shared-slice-read-if1
 shared-slice-read-if1 c = got-to (c .before .before) .0 .behind .inside
@@ -101,15 +130,17 @@ bad-change-requires-5 c κs = search needs
 returns-5 : tie.Need-returns-5
 returns-5 c =
     let t = c .before .before .before .before in
-    let f = t .before .before .before .before in
-    let k = f .before .before .before .before in
-    (λ e. absurd (true≢false (sym e ∙ c .bad-change5 .ensures .0)), λ e. change-too-long (got-inst (inst-of k) .0) (got-slot k .0) (got-from f .0) (got-to t .0) (c .before .if1 .taken))
+    let f = from-of t in
+    let k = slot-of f in (
+      not-good (c .bad-change5 .ensures .0),
+      λ e. change-too-long (got-inst (inst-of k) .0) (got-slot k .0) (got-from f .0) (got-to t .0) (c .before .if1 .taken),
+    )
 
 returns-6 : tie.Need-returns-6
 returns-6 c =
     let t = c .before .before .before in
-    let f = t .before .before .before .before in
-    let k = f .before .before .before .before in
+    let f = from-of t in
+    let k = slot-of f in
     let i = got-inst (inst-of k) .0 in (
       λ e. record {
         says = change-says i (got-slot k .0) (got-from f .0) (got-to t .0) (c .if1 .left);

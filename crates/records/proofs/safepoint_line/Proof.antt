@@ -12,15 +12,23 @@ use borrow.Author.Needs.{needs}
 use Rattle.records.proofs.safepoint_line.Statement.{statement}
 use Rattle.records.proofs.safepoint_line.Tie as tie
 
--- what was read, up to each place
-got-inst : (c : tie.After-inst) → NumberBehind (c .before .before .before .before .args .s .now) (c .before .before .before .before .args .at) (Value (c .inst .given .0 .0) (c .inst .given .0 .1 .0))
-got-inst c = rw (c .inst .given .1) at (c .before .before .number-behind .ensures)
+abbrev start-of : tie.After-inst → tie.Start
+start-of c = c .before .before .before .before
+
+abbrev slots-of : tie.Else1 → tie.After-read-slots
+slots-of c = c .before .before .before
 
 abbrev inst-of : tie.Else1 → tie.After-inst
-inst-of c = c .before .before .before .before .before
+inst-of c = slots-of c .before .before
 
-got-slots : (c : tie.Else1) → SlotsRead (inst-of c .before .before .before .before .args .s .now) (inst-of c .inst .given .0 .1 .0) (inst-of c .before .before .before .before .args .counts .slots) (c .before .before .before .read-slots .result .next) (c .before .before .before .read-slots .result .listed)
-got-slots c = c .before .before .before .read-slots .ensures .0 (not-false _ (c .if1 .left))
+-- what was read, up to each place
+got-inst : (c : tie.After-inst)
+    → NumberBehind (start-of c .args .s .now) (start-of c .args .at) (Value (c .inst .given .0 .0) (c .inst .given .0 .1 .0))
+got-inst c = rw (c .inst .given .1) at (c .before .before .number-behind .ensures)
+
+got-slots : (c : tie.Else1) → let i = inst-of c in let s = start-of i .args in let r = slots-of c .read-slots .result in
+    SlotsRead (s .s .now) (i .inst .given .0 .1 .0) (s .counts .slots) (r .next) (r .listed)
+got-slots c = slots-of c .read-slots .ensures .0 (not-false _ (c .if1 .left))
 
 number-behind-requires : tie.Need-number-behind-requires
 number-behind-requires c κs = search needs
@@ -41,7 +49,7 @@ returns c = (
 )
 
 read-slots-requires : tie.Need-read-slots-requires
-read-slots-requires c κs = (got-inst (c .before) .0 .behind, c .before .before .before .before .before .pre .1 .slots)
+read-slots-requires c κs = (got-inst (c .before) .0 .behind, start-of (c .before) .pre .1 .slots)
 
 no-safepoint-requires-2 : tie.Need-no-safepoint-requires-2
 no-safepoint-requires-2 c κs = search needs

@@ -24,35 +24,55 @@ abbrev μ-loop : tie.MeasureT-loop
 μ-loop pass rule words report₀ at block regs slots base first count t₀ next₀ place₀ report t next place =
     count - place
 
+-- what the function was given, from each place
+abbrev start2 : tie.After-shared-slice-known2 Inv-loop μ-loop → tie.Start Inv-loop μ-loop
+start2 c = c .before .before .before
+
+abbrev start3 : tie.After-shared-slice-known3 Inv-loop μ-loop → tie.Start Inv-loop μ-loop
+start3 c = start2 (c .before)
+
+abbrev start4 : tie.After-shared-slice-known4 Inv-loop μ-loop → tie.Start Inv-loop μ-loop
+start4 c = start3 (c .before)
+
+abbrev start5 : tie.After-shared-slice-known5 Inv-loop μ-loop → tie.Start Inv-loop μ-loop
+start5 c = start4 (c .before)
+
+abbrev start-of : tie.In-loop Inv-loop μ-loop → tie.Start Inv-loop μ-loop
+start-of c = start5 (c .before .before .before)
+
+-- the turn's step
+abbrev action-of : tie.After-update Inv-loop μ-loop → tie.After-action-at Inv-loop μ-loop
+action-of c = c .before .before .before .before .before .before .before
+
 within : (c : tie.Start Inv-loop μ-loop) → BlockWithin (c .args .words .now) (c .args .block)
 within c = block-within (c .pre .0 .loaded) (c .pre .1)
 
 -- the step's numbers are below the counts
-ranged : (c : tie.After-action-at Inv-loop μ-loop)
-    → let s = c .before .before .before .before .before .before .before .before .before .before in
-    InRange (getD (s .args .words .now) regs-word 0) (getD (s .args .words .now) slots-word 0) (s .args .words .now) (c .action-at .result)
+ranged : (c : tie.After-action-at Inv-loop μ-loop) → let words = start-of (c .before) .args .words .now in
+    InRange (getD words regs-word 0) (getD words slots-word 0) words (c .action-at .result)
 ranged c =
-    let s = c .before .before .before .before .before .before .before .before .before .before in
+    let s = start-of (c .before) in
     rw (c .action-at .ensures) (in-range-at (s .pre .0 .loaded) _ (s .pre .1) (s .pre .0 .allocated) _ (omega arith))
 
 ranged-32 : (c : tie.After-action-at Inv-loop μ-loop)
-    → InRange max-regs max-slots (c .before .before .before .before .before .before .before .before .before .before .args .words .now) (c .action-at .result)
+    → InRange max-regs max-slots (start-of (c .before) .args .words .now) (c .action-at .result)
 ranged-32 c =
-    let s = c .before .before .before .before .before .before .before .before .before .before in
+    let s = start-of (c .before) in
+    let words = s .args .words .now in
     let w = within s in
-    in-range-most (getD (s .args .words .now) regs-word 0) (getD (s .args .words .now) slots-word 0) (s .args .words .now) (c .action-at .result) (w .regs) (w .slots) (ranged c)
+    in-range-most (getD words regs-word 0) (getD words slots-word 0) words (c .action-at .result) (w .regs) (w .slots) (ranged c)
 
 shared-slice-read-regs : tie.Need-shared-slice-read-regs Inv-loop μ-loop
-shared-slice-read-regs c = omega (arith, within (c .before .before .before))
+shared-slice-read-regs c = omega (arith, within (start2 c))
 
 cast-regs : tie.Need-cast-regs Inv-loop μ-loop
-cast-regs c = omega (arith, within (c .before .before .before))
+cast-regs c = omega (arith, within (start2 c))
 
 shared-slice-read-slots : tie.Need-shared-slice-read-slots Inv-loop μ-loop
-shared-slice-read-slots c = omega (arith, within (c .before .before .before .before))
+shared-slice-read-slots c = omega (arith, within (start3 c))
 
 cast-slots : tie.Need-cast-slots Inv-loop μ-loop
-cast-slots c = omega (arith, within (c .before .before .before .before))
+cast-slots c = omega (arith, within (start3 c))
 
 mul-base : tie.Need-mul-base Inv-loop μ-loop
 mul-base c = search needs
@@ -64,22 +84,22 @@ mul-first : tie.Need-mul-first Inv-loop μ-loop
 mul-first c = search needs
 
 shared-slice-read-first : tie.Need-shared-slice-read-first Inv-loop μ-loop
-shared-slice-read-first c = omega (arith, within (c .before .before .before .before .before))
+shared-slice-read-first c = omega (arith, within (start4 c))
 
 cast-first : tie.Need-cast-first Inv-loop μ-loop
-cast-first c = omega (arith, within (c .before .before .before .before .before))
+cast-first c = omega (arith, within (start4 c))
 
 add-count : tie.Need-add-count Inv-loop μ-loop
-add-count c = omega (arith, within (c .before .before .before .before .before))
+add-count c = omega (arith, within (start4 c))
 
 mul-count : tie.Need-mul-count Inv-loop μ-loop
 mul-count c = search needs
 
 shared-slice-read-count : tie.Need-shared-slice-read-count Inv-loop μ-loop
-shared-slice-read-count c = omega (arith, within (c .before .before .before .before .before .before))
+shared-slice-read-count c = omega (arith, within (start5 c))
 
 cast-count : tie.Need-cast-count Inv-loop μ-loop
-cast-count c = omega (arith, within (c .before .before .before .before .before .before))
+cast-count c = omega (arith, within (start5 c))
 
 mul-load : tie.Need-mul-load Inv-loop μ-loop
 mul-load c = search needs
@@ -88,18 +108,18 @@ add-load : tie.Need-add-load Inv-loop μ-loop
 add-load c = search needs
 
 load-requires : tie.Need-load-requires Inv-loop μ-loop
-load-requires c κs = let w = within (c .before .before .before .before .before .before) in
+load-requires c κs = let w = within (start5 c) in
     (omega arith, w .regs, w .slots)
 
 loop-holds : tie.Need-loop-holds Inv-loop μ-loop
-loop-holds c = let s = c .before .before .before .before .before .before .before in
+loop-holds c = let s = start5 (c .before) in
     (omega arith, omega arith, refl, so-far-none (s .pre .0) (s .pre .1) _ _ _ _ (c .load .ensures))
 
 add-action-at : tie.Need-add-action-at Inv-loop μ-loop
-add-action-at c = omega (arith, within (c .before .before .before .before .before .before .before .before .before))
+add-action-at c = omega (arith, within (start-of c))
 
 action-at-requires : tie.Need-action-at-requires Inv-loop μ-loop
-action-at-requires c κs = let w = within (c .before .before .before .before .before .before .before .before .before) in
+action-at-requires c κs = let w = within (start-of c) in
     (omega arith, omega arith)
 
 check-requires : tie.Need-check-requires Inv-loop μ-loop
@@ -110,16 +130,17 @@ inst-of-requires c κs = search needs
 
 note-requires : tie.Need-note-requires Inv-loop μ-loop
 note-requires c κs = let a = c .before .before .before in
-    let w = within (a .before .before .before .before .before .before .before .before .before .before) in
-    (omega arith, omega arith, error-within _ (a .action-at .result) _ _ (ranged-32 a) (c .before .before .check .ensures _ _ (ranged a)), omega arith)
+    let w = within (start-of (a .before)) in
+    let e = error-within _ (a .action-at .result) _ _ (ranged-32 a) (c .before .before .check .ensures _ _ (ranged a)) in
+    (omega arith, omega arith, e, omega arith)
 
 update-requires : tie.Need-update-requires Inv-loop μ-loop
 update-requires c κs = let a = c .before .before .before .before .before .before in
-    let w = within (a .before .before .before .before .before .before .before .before .before .before) in
+    let w = within (start-of (a .before)) in
     (w .regs, w .slots, ranged a)
 
 add-place : tie.Need-add-place Inv-loop μ-loop
-add-place c = omega (arith, within (c .before .before .before .before .before .before .before .before .before .before .before .before .before .before .before .before .before))
+add-place c = let a = action-of c in omega (arith, within (start-of (a .before)))
 
 loop-less : tie.Need-loop-less Inv-loop μ-loop
 loop-less c = omega arith
@@ -127,7 +148,7 @@ loop-less c = omega arith
 loop-again : tie.Need-loop-again Inv-loop μ-loop
 loop-again c = let n = c .before .before .before in
     let a = n .before .before .before .before in
-    let s = a .before .before .before .before .before .before .before .before .before .before in
+    let s = start-of (a .before) in
     let l = a .before .before in (
       omega arith,
       omega arith,
@@ -140,7 +161,7 @@ same-length : tie.Need-same-length Inv-loop μ-loop
 same-length c = search needs
 
 returns : tie.Need-returns Inv-loop μ-loop
-returns c = let s = c .before .before .before .before .before .before .before .before .before in
+returns c = let s = start5 (c .before .before .before) in
     let e : c .before .loop .place ≡ step-total (s .args .words .now) (s .args .block) = omega arith in
     (so-far-all (s .pre .0) (s .pre .1) (rw e at (c .before .loop .inv .3)), omega arith)
 

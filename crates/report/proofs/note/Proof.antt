@@ -1,10 +1,23 @@
 -- `note` meets its contract: kind 0 is no fault and no line; any other kind is one line, counted or written, of at most 32 bytes.
+use Prim.Native.Nat.{_≤_}
 use native.Mathlib.Omega.{arith}
+use lib.ListN.{length}
+use Rattle.report.specs.Lines.{fields-line}
 use Rattle.report.proofs.LawsLines.{fields-short}
 use Rattle.report.proofs.LawsPasses.{noted-nothing, noted-counted, noted-written}
 use borrow.Author.Needs.{needs}
 use Rattle.report.proofs.note.Statement.{statement}
 use Rattle.report.proofs.note.Tie as tie
+
+abbrev start-of : tie.After-fields-of → tie.Start
+start-of c = c .before .before
+
+-- the line is short
+short : (c : tie.After-fields-of) → let s = start-of c .args in
+    length (fields-line (s .block) (s .place) (s .inst) (c .fields-of .result)) ≤ 32
+short c =
+    let s = start-of c in
+    fields-short (s .args .block) (s .args .place) (s .args .inst) (s .pre .0) (s .pre .1) _ _ (s .pre .2) (c .fields-of .ensures)
 
 fields-of-requires : tie.Need-fields-of-requires
 fields-of-requires c κs = c .before .pre .2
@@ -23,8 +36,7 @@ enum-told-2 c = search needs
 
 write-line-requires : tie.Need-write-line-requires
 write-line-requires c κs = let f = c .before .before .before .before .before in
-    let s = f .before .before in
-    (omega arith, omega arith, omega (arith, fields-short (s .args .block) (s .args .place) (s .args .inst) (s .pre .0) (s .pre .1) _ _ (s .pre .2) (f .fields-of .ensures)))
+    (omega arith, omega arith, omega (arith, short f))
 
 returns-2 : tie.Need-returns-2
 returns-2 c = let f = c .before .before .before .before in
@@ -36,10 +48,9 @@ same-length c = search needs
 returns-3 : tie.Need-returns-3
 returns-3 c = let w = c .before .before in
     let e = w .before .before in
-    let f = e .before .before .before .before in
-    let s = f .before .before in (
+    let f = e .before .before .before .before in (
       rw (e .enum-told2 .given .1) (noted-written _ _ _ (f .fields-of .ensures) (e .before .before .if1 .left) (w .write-line .ensures)),
-      omega (arith, fields-short (s .args .block) (s .args .place) (s .args .inst) (s .pre .0) (s .pre .1) _ _ (s .pre .2) (f .fields-of .ensures)),
+      omega (arith, short f),
     )
 
 pub note-spec : {M : Type 1} → statement M

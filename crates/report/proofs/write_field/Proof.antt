@@ -7,6 +7,9 @@ use borrow.Author.Needs.{needs}
 use Rattle.report.proofs.write_field.Statement.{statement}
 use Rattle.report.proofs.write_field.Tie as tie
 
+abbrev tab-of : tie.After-slice-known2 → tie.After-write-byte
+tab-of c = c .before .before
+
 write-byte-requires : tie.Need-write-byte-requires
 write-byte-requires c κs = omega arith
 
@@ -15,28 +18,40 @@ enum-told c = search needs
 
 write-byte-requires-2 : tie.Need-write-byte-requires-2
 unfolding field-text
-write-byte-requires-2 c κs = omega (arith, rw (c .before .enum-told .given .1) at (c .before .before .before .before .before .before .before .before .pre))
+write-byte-requires-2 c κs =
+    let f = c .before in
+    let s = f .before .before .before .before .before .before .before in
+    omega (arith, rw (f .enum-told .given .1) at (s .pre))
 
 enum-known-field : tie.Need-enum-known-field
 enum-known-field c = search needs
 
 write-before-number-requires : tie.Need-write-before-number-requires
 unfolding field-text
-write-before-number-requires c κs = omega (arith, rw (c .before .before .field .given .1) at (c .before .before .before .before .before .before .before .before .before .pre))
+write-before-number-requires c κs =
+    let f = c .before .before in
+    let s = f .before .before .before .before .before .before .before in
+    omega (arith, rw (f .field .given .1) at (s .pre))
 
 enum-known-field-2 : tie.Need-enum-known-field-2
 enum-known-field-2 c = search needs
 
 write-before-number-requires-2 : tie.Need-write-before-number-requires-2
 unfolding field-text slot-text
-write-before-number-requires-2 c κs = omega (arith, rw (c .before .before .field2 .given .1) at (c .before .before .before .before .before .before .before .before .before .pre))
+write-before-number-requires-2 c κs =
+    let f = c .before .before in
+    let s = f .before .before .before .before .before .before .before in
+    omega (arith, rw (f .field2 .given .1) at (s .pre))
 
 enum-known-field-3 : tie.Need-enum-known-field-3
 enum-known-field-3 c = search needs
 
 write-word-requires : tie.Need-write-word-requires
 unfolding field-text
-write-word-requires c κs = omega (arith, rw (c .before .before .field3 .given .1) at (c .before .before .before .before .before .before .before .before .before .pre))
+write-word-requires c κs =
+    let f = c .before .before in
+    let s = f .before .before .before .before .before .before .before in
+    omega (arith, rw (f .field3 .given .1) at (s .pre))
 
 same-length : tie.Need-same-length
 same-length c = search needs
@@ -44,7 +59,8 @@ same-length c = search needs
 returns : tie.Need-returns
 unfolding field-text
 returns c = let w = c .before .before in
-    rw (w .before .before .enum-told .given .1) (then (w .before .before .before .before .before .before .write-byte .ensures) (w .write-byte2 .ensures))
+    let f = w .before .before in
+    rw (f .enum-told .given .1) (then (tab-of (f .before .before) .write-byte .ensures) (w .write-byte2 .ensures))
 
 same-length-2 : tie.Need-same-length-2
 same-length-2 c = search needs
@@ -52,7 +68,8 @@ same-length-2 c = search needs
 returns-2 : tie.Need-returns-2
 unfolding field-text
 returns-2 c = let w = c .before .before in
-    rw (w .before .before .before .field .given .1) (then (w .before .before .before .before .before .before .before .write-byte .ensures) (w .write-before-number .ensures))
+    let f = w .before .before .before in
+    rw (f .field .given .1) (then (tab-of (f .before .before) .write-byte .ensures) (w .write-before-number .ensures))
 
 same-length-3 : tie.Need-same-length-3
 same-length-3 c = search needs
@@ -60,7 +77,8 @@ same-length-3 c = search needs
 returns-3 : tie.Need-returns-3
 unfolding field-text slot-text
 returns-3 c = let w = c .before .before in
-    rw (w .before .before .before .field2 .given .1) (then (w .before .before .before .before .before .before .before .write-byte .ensures) (w .write-before-number2 .ensures))
+    let f = w .before .before .before in
+    rw (f .field2 .given .1) (then (tab-of (f .before .before) .write-byte .ensures) (w .write-before-number2 .ensures))
 
 same-length-4 : tie.Need-same-length-4
 same-length-4 c = search needs
@@ -68,7 +86,8 @@ same-length-4 c = search needs
 returns-4 : tie.Need-returns-4
 unfolding field-text
 returns-4 c = let w = c .before .before in
-    rw (w .before .before .before .field3 .given .1) (then (w .before .before .before .before .before .before .before .write-byte .ensures) (w .write-word .ensures))
+    let f = w .before .before .before in
+    rw (f .field3 .given .1) (then (tab-of (f .before .before) .write-byte .ensures) (w .write-word .ensures))
 
 pub write-field-spec : {M : Type 1} → statement M
 write-field-spec =

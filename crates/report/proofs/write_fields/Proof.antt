@@ -8,20 +8,36 @@ use borrow.Author.Needs.{needs}
 use Rattle.report.proofs.write_fields.Statement.{statement}
 use Rattle.report.proofs.write_fields.Tie as tie
 
+-- what the function was given, from each part's place
+abbrev start1 : tie.After-write-before-number-arg → tie.Start
+start1 c = c .before .before
+
+abbrev start2 : tie.After-write-field-arg → tie.Start
+start2 c = start1 (c .before .before .before .before)
+
+abbrev start3 : tie.After-write-field-arg2 → tie.Start
+start3 c = start2 (c .before .before .before .before)
+
+abbrev start4 : tie.After-write-field-arg3 → tie.Start
+start4 c = start3 (c .before .before .before .before)
+
+abbrev start5 : tie.After-write-byte-arg → tie.Start
+start5 c = start4 (c .before .before .before .before)
+
 write-before-number-requires : tie.Need-write-before-number-requires
-write-before-number-requires c κs = omega (arith, fields-room _ _ _ (c .before .before .pre))
+write-before-number-requires c κs = omega (arith, fields-room _ _ _ (start1 c .pre))
 
 write-field-requires : tie.Need-write-field-requires
-write-field-requires c κs = omega (arith, fields-room _ _ _ (c .before .before .before .before .before .before .pre))
+write-field-requires c κs = omega (arith, fields-room _ _ _ (start2 c .pre))
 
 write-field-requires-2 : tie.Need-write-field-requires-2
-write-field-requires-2 c κs = omega (arith, fields-room _ _ _ (c .before .before .before .before .before .before .before .before .before .before .pre))
+write-field-requires-2 c κs = omega (arith, fields-room _ _ _ (start3 c .pre))
 
 write-field-requires-3 : tie.Need-write-field-requires-3
-write-field-requires-3 c κs = omega (arith, fields-room _ _ _ (c .before .before .before .before .before .before .before .before .before .before .before .before .before .before .pre))
+write-field-requires-3 c κs = omega (arith, fields-room _ _ _ (start4 c .pre))
 
 write-byte-requires : tie.Need-write-byte-requires
-write-byte-requires c κs = omega (arith, fields-room _ _ _ (c .before .before .before .before .before .before .before .before .before .before .before .before .before .before .before .before .before .before .pre))
+write-byte-requires c κs = omega (arith, fields-room _ _ _ (start5 c .pre))
 
 same-length : tie.Need-same-length
 same-length c = search needs

@@ -8,26 +8,42 @@ use borrow.Author.Needs.{needs}
 use Rattle.report.proofs.write_line.Statement.{statement}
 use Rattle.report.proofs.write_line.Tie as tie
 
+-- what the function was given, from each part's place
+abbrev start1 : tie.After-write-byte-arg → tie.Start
+start1 c = c .before .before
+
+abbrev start2 : tie.After-write-before-number-arg → tie.Start
+start2 c = start1 (c .before .before .before .before)
+
+abbrev start3 : tie.After-write-before-number-arg2 → tie.Start
+start3 c = start2 (c .before .before .before .before)
+
+abbrev start4 : tie.After-write-before-number-arg3 → tie.Start
+start4 c = start3 (c .before .before .before .before)
+
+abbrev start5 : tie.After-write-fields-arg → tie.Start
+start5 c = start4 (c .before .before .before .before)
+
 write-byte-requires : tie.Need-write-byte-requires
-write-byte-requires c κs = omega (arith, line-room _ _ _ _ _ _ (c .before .before .pre .2))
+write-byte-requires c κs = omega (arith, line-room _ _ _ _ _ _ (start1 c .pre .2))
 
 cast-write-before-number : tie.Need-cast-write-before-number
 cast-write-before-number c = omega arith
 
 write-before-number-requires : tie.Need-write-before-number-requires
-write-before-number-requires c κs = omega (arith, line-room _ _ _ _ _ _ (c .before .before .before .before .before .before .pre .2))
+write-before-number-requires c κs = omega (arith, line-room _ _ _ _ _ _ (start2 c .pre .2))
 
 cast-write-before-number-2 : tie.Need-cast-write-before-number-2
 cast-write-before-number-2 c = omega arith
 
 write-before-number-requires-2 : tie.Need-write-before-number-requires-2
-write-before-number-requires-2 c κs = omega (arith, line-room _ _ _ _ _ _ (c .before .before .before .before .before .before .before .before .before .before .pre .2))
+write-before-number-requires-2 c κs = omega (arith, line-room _ _ _ _ _ _ (start3 c .pre .2))
 
 write-before-number-requires-3 : tie.Need-write-before-number-requires-3
-write-before-number-requires-3 c κs = omega (arith, line-room _ _ _ _ _ _ (c .before .before .before .before .before .before .before .before .before .before .before .before .before .before .pre .2))
+write-before-number-requires-3 c κs = omega (arith, line-room _ _ _ _ _ _ (start4 c .pre .2))
 
 write-fields-requires : tie.Need-write-fields-requires
-write-fields-requires c κs = omega (arith, line-room _ _ _ _ _ _ (c .before .before .before .before .before .before .before .before .before .before .before .before .before .before .before .before .before .before .pre .2))
+write-fields-requires c κs = omega (arith, line-room _ _ _ _ _ _ (start5 c .pre .2))
 
 same-length : tie.Need-same-length
 same-length c = search needs

@@ -32,23 +32,29 @@ other words (Operation inst at n m) h e = miss (0 ∷ 1 ∷ 2 ∷ 3 ∷ 5 ∷ []
 other words (Safepoint inst mask) h e = true≢false (sym e)
 
 -- the step that was found
-room : (c : tie.After-inst) → RoomFor (Operation (c .inst .given .0 .0) (c .inst .given .0 .1 .0) (c .inst .given .0 .1 .1 .0) (c .inst .given .0 .1 .1 .1 .0)) (c .before .before .before .before .before .args .words .now)
+abbrev start-of : tie.After-action-at → tie.Start
+start-of c = c .before .before .before
+
+abbrev found-at : tie.After-inst → tie.After-action-at
+found-at c = c .before .before
+
+abbrev operation-at : tie.After-inst → Action
+operation-at c = let g = c .inst .given .0 in Operation (g .0) (g .1 .0) (g .1 .1 .0) (g .1 .1 .1 .0)
+
+room : (c : tie.After-inst) → RoomFor (operation-at c) (start-of (found-at c) .args .words .now)
 room c =
-    let s = c .before .before .before .before .before in
-    subst (λ (a : Action). RoomFor a (s .args .words .now)) (sym (c .before .before .action-at .ensures) ∙ c .inst .given .1) (room-at (s .pre .0) (s .args .k) (s .pre .1 .within .2))
+    let s = start-of (found-at c) in
+    subst (λ (a : Action). RoomFor a (s .args .words .now)) (sym (c .before .before .action-at .ensures) ∙ c .inst .given .1)
+    (room-at (s .pre .0) (s .args .k) (s .pre .1 .within .2))
 
 some-missing : (c : tie.After-inst)
-    → some-in (missing-names (step-of (c .before .before .before .before .before .args .words .now) (Operation (c .inst .given .0 .0) (c .inst .given .0 .1 .0) (c .inst .given .0 .1 .1 .0) (c .inst .given .0 .1 .1 .1 .0)))) ≡ true
-some-missing c =
-    let s = c .before .before .before .before .before in
-    rw (sym (c .inst .given .1) ∙ c .before .before .action-at .ensures) (s .pre .1 .within .3)
+    → some-in (missing-names (step-of (start-of (found-at c) .args .words .now) (operation-at c))) ≡ true
+some-missing c = rw (sym (c .inst .given .1) ∙ c .before .before .action-at .ensures) (start-of (found-at c) .pre .1 .within .3)
 
-found : (c : tie.After-inst)
-    → faults (c .before .before .before .before .before .args .rule) (sheet-of (c .before .before .before .before .before .args .words .now))
-    ≡ step-lines (c .before .before .before .before .before .args .block) (c .before .before .before .before .before .args .place)
-    (step-of (c .before .before .before .before .before .args .words .now) (Operation (c .inst .given .0 .0) (c .inst .given .0 .1 .0) (c .inst .given .0 .1 .1 .0) (c .inst .given .0 .1 .1 .1 .0)))
+found : (c : tie.After-inst) → let s = start-of (found-at c) .args in
+    faults (s .rule) (sheet-of (s .words .now)) ≡ step-lines (s .block) (s .place) (step-of (s .words .now) (operation-at c))
 found c =
-    let s = c .before .before .before .before .before in
+    let s = start-of (found-at c) in
     rw (sym (c .inst .given .1) ∙ c .before .before .action-at .ensures) (faults-missing _ _ _ _ (s .args .k) (s .pre .1))
 
 action-at-requires : tie.Need-action-at-requires
@@ -67,7 +73,7 @@ missing-among-requires c κs = omega (arith, room (c .before))
 
 write-missing-among-requires : tie.Need-write-missing-among-requires
 write-missing-among-requires c κs = let a = c .before .before .before .before in
-    let s = a .before .before .before .before .before in
+    let s = start-of (found-at a) in
     let r = room a in
     (omega arith, omega arith, omega (arith, s .pre .0 .bounds .blocks, s .pre .1 .within), s .pre .1 .within .1, s .pre .2, sym (c .before .before .missing-among .ensures) ∙ c .before .if1 .taken)
 
@@ -85,7 +91,7 @@ add-write-missing-among c = omega (arith, room (c .before .before .before))
 
 write-missing-among-requires-2 : tie.Need-write-missing-among-requires-2
 write-missing-among-requires-2 c κs = let a = c .before .before .before .before in
-    let s = a .before .before .before .before .before in
+    let s = start-of (found-at a) in
     let r = room a in (
       omega arith,
       omega arith,

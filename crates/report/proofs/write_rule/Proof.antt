@@ -8,13 +8,33 @@ use borrow.Author.Needs.{needs}
 use Rattle.report.proofs.write_rule.Statement.{statement}
 use Rattle.report.proofs.write_rule.Tie as tie
 
-old-room : (c : tie.After-enum-told) → c .before .before .before .args .at + 3 ≤ length (c .before .before .before .args .report .now)
+-- the room for a rule's word
+old-room : (c : tie.After-enum-told) → let s = c .before .before .before .args in s .at + 3 ≤ length (s .report .now)
 unfolding rule-text
 old-room c = rw (c .enum-told .given .1) at (c .before .before .before .pre)
 
-house-room : (c : tie.After-enum-told2) → c .before .before .before .args .at + 5 ≤ length (c .before .before .before .args .report .now)
+house-room : (c : tie.After-enum-told2) → let s = c .before .before .before .args in s .at + 5 ≤ length (s .report .now)
 unfolding rule-text
 house-room c = rw (c .enum-told2 .given .1) at (c .before .before .before .pre)
+
+-- where the rule was told, from each byte's place but the first's
+abbrev old2 : tie.After-write-byte-arg2 → tie.After-enum-told
+old2 c = c .before .before .before .before .before
+
+abbrev old3 : tie.After-write-byte-arg3 → tie.After-enum-told
+old3 c = old2 (c .before .before .before .before)
+
+abbrev house2 : tie.After-write-byte-arg5 → tie.After-enum-told2
+house2 c = c .before .before .before .before .before
+
+abbrev house3 : tie.After-write-byte-arg6 → tie.After-enum-told2
+house3 c = house2 (c .before .before .before .before)
+
+abbrev house4 : tie.After-write-byte-arg7 → tie.After-enum-told2
+house4 c = house3 (c .before .before .before .before)
+
+abbrev house5 : tie.After-write-byte-arg8 → tie.After-enum-told2
+house5 c = house4 (c .before .before .before .before)
 
 enum-told : tie.Need-enum-told
 enum-told c = search needs
@@ -23,10 +43,10 @@ write-byte-requires : tie.Need-write-byte-requires
 write-byte-requires c κs = omega (arith, old-room (c .before))
 
 write-byte-requires-2 : tie.Need-write-byte-requires-2
-write-byte-requires-2 c κs = omega (arith, old-room (c .before .before .before .before .before))
+write-byte-requires-2 c κs = omega (arith, old-room (old2 c))
 
 write-byte-requires-3 : tie.Need-write-byte-requires-3
-write-byte-requires-3 c κs = omega (arith, old-room (c .before .before .before .before .before .before .before .before .before))
+write-byte-requires-3 c κs = omega (arith, old-room (old3 c))
 
 enum-told-2 : tie.Need-enum-told-2
 enum-told-2 c = search needs
@@ -35,16 +55,16 @@ write-byte-requires-4 : tie.Need-write-byte-requires-4
 write-byte-requires-4 c κs = omega (arith, house-room (c .before))
 
 write-byte-requires-5 : tie.Need-write-byte-requires-5
-write-byte-requires-5 c κs = omega (arith, house-room (c .before .before .before .before .before))
+write-byte-requires-5 c κs = omega (arith, house-room (house2 c))
 
 write-byte-requires-6 : tie.Need-write-byte-requires-6
-write-byte-requires-6 c κs = omega (arith, house-room (c .before .before .before .before .before .before .before .before .before))
+write-byte-requires-6 c κs = omega (arith, house-room (house3 c))
 
 write-byte-requires-7 : tie.Need-write-byte-requires-7
-write-byte-requires-7 c κs = omega (arith, house-room (c .before .before .before .before .before .before .before .before .before .before .before .before .before))
+write-byte-requires-7 c κs = omega (arith, house-room (house4 c))
 
 write-byte-requires-8 : tie.Need-write-byte-requires-8
-write-byte-requires-8 c κs = omega (arith, house-room (c .before .before .before .before .before .before .before .before .before .before .before .before .before .before .before .before .before))
+write-byte-requires-8 c κs = omega (arith, house-room (house5 c))
 
 same-length : tie.Need-same-length
 same-length c = search needs
@@ -66,7 +86,9 @@ returns-2 c = let w5 = c .before .before in
     let w3 = w4 .before .before .before .before in
     let w2 = w3 .before .before .before .before in
     let w1 = w2 .before .before .before .before in
-    rw (w1 .before .before .enum-told2 .given .1) (then (then (then (then (w1 .write-byte4 .ensures) (w2 .write-byte5 .ensures)) (w3 .write-byte6 .ensures)) (w4 .write-byte7 .ensures)) (w5 .write-byte8 .ensures))
+    let ho = then (w1 .write-byte4 .ensures) (w2 .write-byte5 .ensures) in
+    rw (w1 .before .before .enum-told2 .given .1)
+    (then (then (then ho (w3 .write-byte6 .ensures)) (w4 .write-byte7 .ensures)) (w5 .write-byte8 .ensures))
 
 pub write-rule-spec : {M : Type 1} → statement M
 write-rule-spec =

@@ -5,6 +5,7 @@ use native.Mathlib.Omega.{arith}
 use borrow.Author.Needs.{needs}
 use lib.ListN.{getD}
 use Rattle.layout.specs.Layout.{block-base, block-words}
+use Rattle.runs.specs.Queue.{Taken}
 use Rattle.runs.proofs.LawsVisit.{Serving, serving-none, serving-more, still-allocated, first-below, Visiting, visiting, serving-ready, serving-block, serving-sound, serving-room, moved-visit}
 use Rattle.runs.proofs.visit.Statement.{statement}
 use Rattle.runs.proofs.visit.Tie as tie
@@ -15,15 +16,26 @@ Inv-loop table rule words₀ queue₀ head b waiting₀ result at total i₀ wor
 abbrev μ-loop : tie.MeasureT-loop
 μ-loop table rule words₀ queue₀ head b waiting₀ result at total i₀ words queue waiting i = total - i
 
+abbrev start-of : tie.After-take Inv-loop μ-loop → tie.Start Inv-loop μ-loop
+start-of c = c .before .before .before .before
+
+abbrev take-of : tie.After-through Inv-loop μ-loop → tie.After-take Inv-loop μ-loop
+take-of c = c .before .before
+
+abbrev through-of : tie.In-loop Inv-loop μ-loop → tie.After-through Inv-loop μ-loop
+through-of c = c .before .before .before
+
+-- the queue without its first block
+taken : (c : tie.After-take Inv-loop μ-loop) → let s = start-of c .args in
+    Taken (s .queue .now) (s .ring) (c .take .result)
+taken c = c .take .ensures _ (start-of c .pre .1 .running .stands .sound)
+
 -- the visited block
 abbrev first : tie.After-through Inv-loop μ-loop → ℕ
-first c = let a = c .before .before .before .before .before .before in getD (a .args .queue .now) (a .args .ring .head) 0
+first c = let a = start-of (take-of c) .args in getD (a .queue .now) (a .ring .head) 0
 
-visited : (c : tie.After-through Inv-loop μ-loop) → Visiting (c .before .before .before .before .before .before .args .words .now) (first c)
-visited c =
-    let t = c .before .before in
-    let g = t .before .before .before .before .pre .1 in
-    visiting g (t .take .ensures _ (g .running .stands .sound))
+visited : (c : tie.After-through Inv-loop μ-loop) → Visiting (start-of (take-of c) .args .words .now) (first c)
+visited c = visiting (start-of (take-of c) .pre .1) (taken (take-of c))
 
 slice-read-b : tie.Need-slice-read-b Inv-loop μ-loop
 slice-read-b c = search needs
@@ -37,9 +49,8 @@ take-requires c κs = search needs
 through-requires : tie.Need-through-requires Inv-loop μ-loop
 through-requires c κs =
     let t = c .before in
-    let a = t .before .before .before .before in
-    let g = a .pre .1 in
-    let k = t .take .ensures _ (g .running .stands .sound) in
+    let g = start-of t .pre .1 in
+    let k = taken t in
     (g .running .stands .tables .sheet .ready, still-allocated g k, first-below g k)
 
 mul-at : tie.Need-mul-at Inv-loop μ-loop
@@ -64,28 +75,32 @@ loop-holds : tie.Need-loop-holds Inv-loop μ-loop
 loop-holds c = serving-none
 
 add-s : tie.Need-add-s Inv-loop μ-loop
-add-s c = let v = visited (c .before .before .before) in omega (arith, v .small)
+add-s c = let v = visited (through-of c) in omega (arith, v .small)
 
 add-s-2 : tie.Need-add-s-2 Inv-loop μ-loop
-add-s-2 c = let v = visited (c .before .before .before) in omega (arith, v .small, v .succs)
+add-s-2 c = let v = visited (through-of c) in omega (arith, v .small, v .succs)
 
 mul-s : tie.Need-mul-s Inv-loop μ-loop
-mul-s c = let v = visited (c .before .before .before) in omega (arith, v .small, v .succs)
+mul-s c = let v = visited (through-of c) in omega (arith, v .small, v .succs)
 
 slice-read-s : tie.Need-slice-read-s Inv-loop μ-loop
-slice-read-s c = let v = visited (c .before .before .before .before) in omega (arith, v .small, v .succs, v .size, c .before .before .loop .inv .moved .kept .same-length)
+slice-read-s c =
+    let v = visited (through-of (c .before)) in
+    omega (arith, v .small, v .succs, v .size, c .before .before .loop .inv .moved .kept .same-length)
 
 cast-s : tie.Need-cast-s Inv-loop μ-loop
-cast-s c = omega (arith, c .slice-known5 .given (block-base + first (c .before .before .before .before) * block-words + 3 + c .before .before .loop .i))
+cast-s c =
+    let b = first (through-of (c .before)) in
+    omega (arith, c .slice-known5 .given (block-base + b * block-words + 3 + c .before .before .loop .i))
 
 push-requires : tie.Need-push-requires Inv-loop μ-loop
 push-requires c κs =
     let i = c .before .before .before in
-    let h = i .before .before .before in
-    let t = h .before .before in
-    let a = t .before .before .before .before in
+    let h = through-of i in
+    let t = take-of h in
+    let a = start-of t in
     let g = a .pre .1 in
-    let k = t .take .ensures _ (g .running .stands .sound) in
+    let k = taken t in
     let s = i .before .loop .inv in
     let w = h .through .ensures in
     (a .pre .0, serving-ready g k w s, serving-block g k w s (i .loop-test .taken), serving-sound g k w s, serving-room g k w s)
@@ -93,7 +108,7 @@ push-requires c κs =
 add-i : tie.Need-add-i Inv-loop μ-loop
 add-i c =
     let i = c .before .before .before .before .before .before .before .before in
-    let v = visited (i .before .before .before) in
+    let v = visited (through-of i) in
     omega (arith, v .succs, i .loop-test .taken)
 
 loop-less : tie.Need-loop-less Inv-loop μ-loop
@@ -103,8 +118,10 @@ loop-again : tie.Need-loop-again Inv-loop μ-loop
 loop-again c =
     let p = c .before .before .before .before in
     let i = p .before .before .before .before in
-    let v = visited (i .before .before .before) in
-    serving-more (i .before .loop .inv) (i .loop-test .taken) (omega (arith, v .small, v .succs)) (omega (arith, v .small, v .succs, v .size)) (p .push .ensures)
+    let v = visited (through-of i) in
+    serving-more (i .before .loop .inv) (i .loop-test .taken) (omega (arith, v .small, v .succs))
+    (omega (arith, v .small, v .succs, v .size))
+    (p .push .ensures)
 
 same-length : tie.Need-same-length Inv-loop μ-loop
 same-length c = search needs
@@ -115,10 +132,8 @@ same-length-2 c = search needs
 returns : tie.Need-returns Inv-loop μ-loop
 returns c =
     let h = c .before .before .before in
-    let t = h .before .before in
-    let a = t .before .before .before .before in
-    let g = a .pre .1 in
-    moved-visit g (t .take .ensures _ (g .running .stands .sound)) (h .through .ensures) (c .before .loop .inv) (c .loop-test .left)
+    let t = take-of h in
+    moved-visit (start-of t .pre .1) (taken t) (h .through .ensures) (c .before .loop .inv) (c .loop-test .left)
 
 pub visit-spec : {M : Type 1} → statement M
 visit-spec =

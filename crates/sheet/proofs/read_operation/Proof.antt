@@ -12,32 +12,70 @@ use Rattle.steps.specs.Actions.{step-of}
 use Rattle.steps.specs.declared.Action.the-variants.{Operation}
 use Rattle.sheet.specs.Loaded.{sheet-of}
 use Rattle.sheet.proofs.LawsJudged.{operations-alike}
-use Rattle.sheet.proofs.LawsProgress.{size-of, counted-by, within-by, typed-by}
+use Rattle.sheet.proofs.LawsProgress.{size-of, counted-of, counted-by, within-by, typed-by}
 use Rattle.sheet.proofs.LawsOperands.{operands-place, operands-room, progress-kept, sheet-kept, line-kept, operation-stored, operation-fits}
 use Rattle.sheet.proofs.LawsLines.{told-most, told-as, told-inside}
 use borrow.Author.Needs.{needs}
+use Rattle.sheet.specs.Reading.{LineRead}
 use Rattle.sheet.proofs.read_operation.Statement.{statement}
 use Rattle.sheet.proofs.read_operation.Tie as tie
 
+abbrev start-of : tie.After-words → tie.Start
+start-of c = c .before .before .before .before .before
+
+abbrev read-at : tie.After-operation-line → tie.After-words
+read-at c = c .before .before
+
+abbrev line-of : tie.After-store-operands → tie.After-operation-line
+line-of c = c .before .before .before .before
+
+abbrev stored-of : tie.After-step-line-arg → tie.After-store-operands
+stored-of c = c .before .before .before
+
 -- the two groups of a line that breaks nothing
-groups : (c : tie.After-operation-line) → c .operation-line .result .number ≡ 0 → GroupWithin (sheet-of (c .before .before .before .before .before .before .before .args .words .now)) (getD (c .before .before .before .before .before .before .before .args .words .now) regs-word 0) 0 (c .operation-line .result .n) (c .operation-line .result .operands) × GroupWithin (sheet-of (c .before .before .before .before .before .before .before .args .words .now)) (getD (c .before .before .before .before .before .before .before .args .words .now) regs-word 0) defs-from (c .operation-line .result .m) (c .operation-line .result .operands)
+groups : (c : tie.After-operation-line) → c .operation-line .result .number ≡ 0
+    → let words = start-of (read-at c) .args .words .now in let r = c .operation-line .result in
+    GroupWithin (sheet-of words) (getD words regs-word 0) 0 (r .n) (r .operands)
+    × GroupWithin (sheet-of words) (getD words regs-word 0) defs-from (r .m) (r .operands)
 unfolding region
 groups c z =
-    let w = c .operation-line .ensures .1 z (sheet-of (c .before .before .before .before .before .before .before .args .words .now)) (counted-by _ _ (c .before .before .before .counts .ensures)) (typed-by (c .before .before .before .before .before .before .before .args .words .now)) in
-    (rw (c .before .before .before .counts .ensures) at (w .1), rw (c .before .before .before .counts .ensures) at (w .2))
+    let words = start-of (read-at c) .args .words .now in
+    let w = (rw (c .before .before .before .counts .ensures) at (c .operation-line .ensures .1 z)) (sheet-of words)
+    (counted-of words) (typed-by words) in
+    (w .1, w .2)
 
 all : (c : tie.After-operation-line) → length (c .operation-line .result .operands) ≡ operand-words
 all c = sym (length-map (c .operation-line .result .operands) (λ v. v)) ∙ c .operation-line .ok .1 .1 .1 .1 .1 .1 .0 .1 .0 .1
 
 -- what is told of the line, once its operands stand in the words
-told : (c : tie.After-store-operands) → Told (sheet-of (c .store-operands .last .0)) (c .before .before .before .before .before .before .before .before .before .before .before .args .sheet .now) (c .before .before .before .before .before .before .before .before .before .before .before .args .at) (operation-of (fields-behind (c .before .before .before .before .before .before .before .before .before .before .before .args .sheet .now) (c .before .before .before .before .before .before .before .before .before .before .before .args .at))) (c .before .before .before .before .operation-line .result .number) (c .before .before .before .before .operation-line .result .next) (step-record (step-of (c .store-operands .last .0) (Operation (c .before .before .before .before .operation-line .result .inst) (operands-place (c .before .before .before .before .before .before .before .before .before .before .before .args .words .now)) (c .before .before .before .before .operation-line .result .n) (c .before .before .before .before .operation-line .result .m))))
+told : (c : tie.After-store-operands)
+    → let s = start-of (read-at (line-of c)) .args in let r = line-of c .operation-line .result in
+    let stored = c .store-operands .last .0 in
+    Told (sheet-of stored) (s .sheet .now) (s .at) (operation-of (fields-behind (s .sheet .now) (s .at))) (r .number) (r .next)
+    (step-record (step-of stored (Operation (r .inst) (operands-place (s .words .now)) (r .n) (r .m))))
 told c =
-    let t = c .before .before .before .before in
-    let s = c .before .before .before .before .before .before .before .before .before .before .before in
-    rw (sheet-kept (t .operation-line .result .operands) (s .args .words .now) (c .store-operands .last .0) (c .store-operands .ensures) (s .pre .1))
-    (told-as _ (t .operation-line .ensures .0 (sheet-of (s .args .words .now)) (counted-by _ _ (t .before .before .before .counts .ensures))) λ z.
+    let t = line-of c in
+    let s = start-of (read-at t) in
+    let words = s .args .words .now in
+    let r = t .operation-line .result in
+    let stored = c .store-operands .last .0 in
+    rw (sheet-kept (r .operands) words stored (c .store-operands .ensures) (s .pre .1))
+    (told-as _ (t .operation-line .ensures .0 (sheet-of words) (counted-by _ _ (read-at t .before .counts .ensures))) λ z.
     let g = groups t z in
-    rw (operation-stored (t .operation-line .result .operands) (s .args .words .now) (c .store-operands .last .0) (c .store-operands .ensures) (all t) (operands-room _ (s .pre .1)) (t .operation-line .result .inst) _ _ (g .0 .few) (g .1 .few)))
+    rw (operation-stored (r .operands) words stored (c .store-operands .ensures) (all t) (operands-room _ (s .pre .1)) (r .inst) _ _
+    (g .0 .few) (g .1 .few)))
+
+-- what the step's line gives is what the line gives on the words as they were given
+line : (c : tie.After-step-line) → let s = start-of (read-at (line-of (stored-of (c .before)))) .args in
+    LineRead (operation-of (fields-behind (s .sheet .now) (s .at))) (s .sheet .now) (s .at) (s .words .now) (c .step-line .last .0)
+    (c .step-line .result)
+line c =
+    let o = stored-of (c .before) in
+    let t = line-of o in
+    let s = start-of (read-at t) in
+    line-kept (t .operation-line .result .operands) (s .args .words .now) (o .store-operands .last .0) (o .store-operands .ensures)
+    (s .pre .1)
+    (c .step-line .ensures .lined-step _ _ _ (operations-alike (fields-behind (s .args .sheet .now) (s .args .at)) _) (told o))
 
 counts-requires : tie.Need-counts-requires
 counts-requires c κs = size-of _ (c .before .before .before .pre .1)
@@ -49,15 +87,17 @@ part-operation-line-start : tie.Need-part-operation-line-start
 part-operation-line-start c = search needs
 
 part-operation-line-end : tie.Need-part-operation-line-end
-part-operation-line-end c = omega (arith, size-of _ (c .before .before .before .before .before .pre .1))
+part-operation-line-end c = omega (arith, size-of _ (start-of c .pre .1))
 
 operation-line-requires : tie.Need-operation-line-requires
 unfolding region
-operation-line-requires c κs = let s = c .before .before .before .before .before .before in
-    (s .pre .0, length-region typed-base typed-words (s .args .words .now) (omega (arith, size-of _ (s .pre .1))), within-by _ _ (c .before .before .counts .ensures) (s .pre .1))
+operation-line-requires c κs =
+    let s = start-of (c .before) in
+    let typed = length-region typed-base typed-words (s .args .words .now) (omega (arith, size-of _ (s .pre .1))) in
+    (s .pre .0, typed, within-by _ _ (c .before .before .counts .ensures) (s .pre .1))
 
 slice-read-place : tie.Need-slice-read-place
-slice-read-place c = omega (arith, size-of _ (c .before .before .before .before .before .before .before .before .pre .1))
+slice-read-place c = omega (arith, size-of _ (start-of (read-at (c .before)) .pre .1))
 
 cast-place : tie.Need-cast-place
 cast-place c = omega (arith, c .slice-known2 .given steps-word)
@@ -69,25 +109,29 @@ add-place : tie.Need-add-place
 add-place c = omega (arith, c .slice-known2 .given steps-word)
 
 store-operands-requires : tie.Need-store-operands-requires
-store-operands-requires c κs = operands-room _ (c .before .before .before .before .before .before .before .before .before .before .pre .1)
+store-operands-requires c κs = operands-room _ (start-of (read-at (c .before .before .before)) .pre .1)
 
 step-line-requires : tie.Need-step-line-requires
-step-line-requires c κs = let o = c .before .before .before in
-    let t = c .before .before .before .before .before .before .before in
-    let s = c .before .before .before .before .before .before .before .before .before .before .before .before .before .before in (
-      progress-kept (t .operation-line .result .operands) (s .args .words .now) (o .store-operands .last .0) (o .store-operands .ensures) (s .pre .1),
+step-line-requires c κs =
+    let o = stored-of c in
+    let t = line-of o in
+    let s = start-of (read-at t) in
+    let row = t .operation-line .result .operands in
+    let words = s .args .words .now in
+    let stored = o .store-operands .last .0 in
+    let room = operands-room _ (s .pre .1) in (
+      progress-kept row words stored (o .store-operands .ensures) (s .pre .1),
       told-most (told o),
       told-inside (told o) (s .pre .0 .size),
-      λ z. operation-fits (t .operation-line .result .operands) (s .args .words .now) (o .store-operands .last .0) (o .store-operands .ensures) (all t) (operands-room _ (s .pre .1)) (s .pre .1) _ _ _ (groups t z .0) (groups t z .1),
+      λ z. operation-fits row words stored (o .store-operands .ensures) (all t) room (s .pre .1) _ _ _ (groups t z .0)
+          (groups t z .1),
     )
 
 same-length : tie.Need-same-length
-same-length c = let s = c .before .before .before .before .before .before .before .before .before .before .before .before .before .before .before .before .before in
-    line-kept (c .before .before .before .before .before .before .before .before .before .before .operation-line .result .operands) (s .args .words .now) (c .before .before .before .before .before .before .store-operands .last .0) (c .before .before .before .before .before .before .store-operands .ensures) (s .pre .1) (c .before .before .step-line .ensures .lined-step _ _ _ (operations-alike (fields-behind (s .args .sheet .now) (s .args .at)) _) (told (c .before .before .before .before .before .before))) .same-length
+same-length c = line (c .before .before) .same-length
 
 returns : tie.Need-returns
-returns c = let s = c .before .before .before .before .before .before .before .before .before .before .before .before .before .before .before .before .before in
-    line-kept (c .before .before .before .before .before .before .before .before .before .before .operation-line .result .operands) (s .args .words .now) (c .before .before .before .before .before .before .store-operands .last .0) (c .before .before .before .before .before .before .store-operands .ensures) (s .pre .1) (c .before .before .step-line .ensures .lined-step _ _ _ (operations-alike (fields-behind (s .args .sheet .now) (s .args .at)) _) (told (c .before .before .before .before .before .before)))
+returns c = line (c .before .before)
 
 pub read-operation-spec : {M : Type 1} → statement M
 read-operation-spec =

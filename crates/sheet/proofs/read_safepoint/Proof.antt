@@ -11,32 +11,50 @@ use Rattle.sheet.proofs.LawsJudged.{safepoints-alike}
 use Rattle.sheet.proofs.LawsProgress.{size-of, counted-by, within-by}
 use Rattle.sheet.proofs.LawsActions.{safepoint-fits}
 use Rattle.sheet.proofs.LawsLines.{told-most, told-inside}
+use Rattle.sheet.specs.Reading.{LineRead}
 use Rattle.sheet.proofs.read_safepoint.Statement.{statement}
 use Rattle.sheet.proofs.read_safepoint.Tie as tie
 
-told : (c : tie.After-safepoint-line) → Told (sheet-of (c .before .before .before .before .before .args .words .now)) (c .before .before .before .before .before .args .sheet .now) (c .before .before .before .before .before .args .at) (safepoint-of (fields-behind (c .before .before .before .before .before .args .sheet .now) (c .before .before .before .before .before .args .at))) (c .safepoint-line .result .number) (c .safepoint-line .result .next) (step-record (safepoint (c .safepoint-line .result .inst) (bits.set-bits (c .safepoint-line .result .mask))))
-told c = c .safepoint-line .ensures .0 (sheet-of (c .before .before .before .before .before .args .words .now)) (counted-by _ _ (c .before .counts .ensures))
+abbrev start-of : tie.After-counts → tie.Start
+start-of c = c .before .before .before .before
+
+told : (c : tie.After-safepoint-line) → let s = start-of (c .before) .args in let r = c .safepoint-line .result in
+    Told (sheet-of (s .words .now)) (s .sheet .now) (s .at) (safepoint-of (fields-behind (s .sheet .now) (s .at))) (r .number)
+    (r .next)
+    (step-record (safepoint (r .inst) (bits.set-bits (r .mask))))
+told c = c .safepoint-line .ensures .0 (sheet-of (start-of (c .before) .args .words .now))
+    (counted-by _ _ (c .before .counts .ensures))
+
+line : (c : tie.After-step-line) → let s = start-of (c .before .before .before) .args in
+    LineRead (safepoint-of (fields-behind (s .sheet .now) (s .at))) (s .sheet .now) (s .at) (s .words .now) (c .step-line .last .0)
+    (c .step-line .result)
+unfolding step-of
+line c =
+    let t = c .before .before in
+    let s = start-of (t .before) .args in
+    c .step-line .ensures .lined-step _ _ _ (safepoints-alike (fields-behind (s .sheet .now) (s .at)) _) (told t)
 
 counts-requires : tie.Need-counts-requires
 counts-requires c κs = size-of _ (c .before .before .before .pre .1)
 
 safepoint-line-requires : tie.Need-safepoint-line-requires
-safepoint-line-requires c κs = let s = c .before .before .before .before in (s .pre .0, within-by _ _ (c .counts .ensures) (s .pre .1))
+safepoint-line-requires c κs = let s = start-of c in (s .pre .0, within-by _ _ (c .counts .ensures) (s .pre .1))
 
 step-line-requires : tie.Need-step-line-requires
-step-line-requires c κs = let t = c .before in
-    let s = c .before .before .before .before .before .before in
-    (s .pre .1, told-most (told t), told-inside (told t) (s .pre .0 .size), λ z. safepoint-fits _ (s .pre .1) _ _ (rw (t .before .counts .ensures) at (t .safepoint-line .ensures .1 z .1)))
+step-line-requires c κs =
+    let t = c .before in
+    let s = start-of (t .before) in (
+      s .pre .1,
+      told-most (told t),
+      told-inside (told t) (s .pre .0 .size),
+      λ z. safepoint-fits _ (s .pre .1) _ _ (rw (t .before .counts .ensures) at (t .safepoint-line .ensures .1 z .1)),
+    )
 
 same-length : tie.Need-same-length
-unfolding step-of
-same-length c = let s = c .before .before .before .before .before .before .before .before .before in
-    c .before .before .step-line .ensures .lined-step _ _ _ (safepoints-alike (fields-behind (s .args .sheet .now) (s .args .at)) _) (told (c .before .before .before .before)) .same-length
+same-length c = line (c .before .before) .same-length
 
 returns : tie.Need-returns
-unfolding step-of
-returns c = let s = c .before .before .before .before .before .before .before .before .before in
-    c .before .before .step-line .ensures .lined-step _ _ _ (safepoints-alike (fields-behind (s .args .sheet .now) (s .args .at)) _) (told (c .before .before .before .before))
+returns c = line (c .before .before)
 
 pub read-safepoint-spec : {M : Type 1} → statement M
 read-safepoint-spec =

@@ -14,8 +14,16 @@ use Rattle.sheet.proofs.LawsLines.{step-refused, step-accepted}
 use Rattle.sheet.proofs.step_line.Statement.{statement}
 use Rattle.sheet.proofs.step_line.Tie as tie
 
+abbrev start-of : tie.After-lowest → tie.Start
+start-of c = c .before .before .before .before
+
+abbrev clear-of : tie.After-slice-known4 → tie.Else1
+clear-of c = c .before .before .before .before
+
 -- the line breaks nothing, stands in its place, and there is room for the step
-clear : (c : tie.Else1) → (c .before .before .before .before .before .args .number ≡ 0) × (eqb (getD (c .before .before .before .before .before .args .words .now) opened-word 0) 0 ≡ false) × (leb max-steps (getD (c .before .before .before .before .before .args .words .now) steps-word 0) ≡ false)
+clear : (c : tie.Else1) → let s = start-of (c .before) .args in
+    (s .number ≡ 0) × (eqb (getD (s .words .now) opened-word 0) 0 ≡ false) ×
+    (leb max-steps (getD (s .words .now) steps-word 0) ≡ false)
 clear c = lowest-zero _ _ _ (sym (c .before .lowest .ensures) ∙ c .if1 .left)
 
 slice-read-lowest : tie.Need-slice-read-lowest
@@ -31,26 +39,32 @@ lowest-requires : tie.Need-lowest-requires
 lowest-requires c κs = c .before .before .before .pre .1
 
 returns : tie.Need-returns
-returns c = let s = c .before .before .before .before .before in
-    record { lined-step = λ read sheet at alike told. step-refused _ (s .pre .0) alike told _ (c .before .lowest .ensures) (c .if1 .taken) }
+returns c = record {
+  lined-step = λ read sheet at alike told.
+      step-refused _ (start-of (c .before) .pre .0) alike told _ (c .before .lowest .ensures) (c .if1 .taken);
+}
 
 add-step-requires : tie.Need-add-step-requires
-add-step-requires c κs = let s = c .before .before .before .before .before .before in
+add-step-requires c κs =
+    let s = start-of (c .before .before) in
     let z = clear (c .before) in
     let opened = eqb-false _ _ (z .1) in
     (begun-by-opened _ (s .pre .0) opened, omega (arith, opened), leb-false _ _ (z .2), s .pre .3 (z .0))
 
 add-t11 : tie.Need-add-t11
-add-t11 c =
-    let e = c .before .before .before .before in
-    omega (arith, e .before .before .before .before .before .pre .2 (clear e .0))
+add-t11 c = let e = clear-of c in omega (arith, start-of (e .before) .pre .2 (clear e .0))
 
 same-length : tie.Need-same-length
 same-length c = c .before .before .add-step .ensures .same-length
 
 returns-2 : tie.Need-returns-2
-returns-2 c = let e = c .before .before .before .before in
-    record { lined-step = λ read sheet at alike told. step-accepted _ (e .before .before .before .before .before .pre .0) alike told _ (c .before .before .add-step .ensures) (sym (e .before .lowest .ensures) ∙ e .if1 .left) }
+returns-2 c =
+    let e = clear-of c in
+    record {
+      lined-step = λ read sheet at alike told.
+          step-accepted _ (start-of (e .before) .pre .0) alike told _ (c .before .before .add-step .ensures)
+          (sym (e .before .lowest .ensures) ∙ e .if1 .left);
+    }
 
 pub step-line-spec : {M : Type 1} → statement M
 step-line-spec =
