@@ -1,17 +1,24 @@
 -- What a call of the checker means. One outcome only: two results that both meet a function's promise on the same input are equal,
 -- buffers included. And demand 3 for the call itself: where `check` answers accepted under the house rule, the states are the meet
--- over all walks, the acceptance sentence holds, and the sheet's two programs read equal values at every use.
+-- over all walks, the acceptance sentence holds, and the sheet's two programs read equal values at every use; and it does so
+-- exactly when that sentence holds.
 use mathlib.Core.Path.{_≡_, refl, sym, ap, _∙_}
 use mathlib.Core.Bool.{Bool, true, false}
 use Prim.Native.Nat.{ℕ}
 use native.Mathlib.Omega.{arith}
+use mathlib.Core.List.{[]}
+use lib.ListN.{length}
 use Rattle.paper.specs.Text.{Bytes}
+use Rattle.paper.specs.Sheet.{Sheet}
+use Rattle.paper.specs.Refusals.{loaded, read}
+use Rattle.paper.specs.Report.{report-text}
+use Rattle.paper.specs.Walks.{Acceptance}
 use Rattle.paper.specs.Answer.{Said, accepted, faulty, turned-away, answer, Lent, too-short, answer-of, Outcome, outcome-of, outcome}
 use Rattle.paper.specs.declared.Rule.{Rule}
 use Rattle.paper.specs.declared.Rule.the-variants.{House}
 use Rattle.paper.specs.declared.Answer.{Answer}
 use Rattle.paper.specs.declared.Answer.the-variants.{Accepted, Refused}
-use Rattle.walks.specs.Theorems.{AcceptedBytes, accepted-bytes}
+use Rattle.walks.specs.Theorems.{AcceptedBytes, accepted-bytes, bytes-acceptance}
 use Rattle.checker.specs.Checked.{Checked, TextOutcome, Stated, Exported}
 use Rattle.checker.specs.declared.Verdict.{Verdict}
 
@@ -48,3 +55,9 @@ accepted-said {rule} {sheet} {before} {after} {n} c = at (too-short before) refl
 
 pub check-accepted : {sheet : Bytes} {before after : Lent} {n : ℕ} → Checked House sheet before after (Accepted n) → AcceptedBytes sheet
 check-accepted {sheet} c = let s = accepted-said c in accepted-bytes sheet (s .0) (s .1)
+
+-- and a sheet that the acceptance sentence holds of is answered so, where the lent buffers are long enough
+pub check-accepts : {sheet : Bytes} {before after : Lent} {r : Answer} (S : Sheet) → Checked House sheet before after r → too-short before ≡ false → read sheet ≡ loaded S
+    → Acceptance S → r ≡ Accepted (length (report-text House []))
+unfolding outcome outcome-of answer-of
+check-accepts {sheet} S c long h E = ap (λ (o : Outcome). o .answer) (c .whole) ∙ rw (long, bytes-acceptance sheet S h .1 E)

@@ -14,12 +14,13 @@ use Rattle.paper.specs.declared.Rule.{Rule}
 use Rattle.paper.specs.declared.Answer.{Answer}
 use Rattle.paper.specs.declared.Answer.the-variants.{Accepted, Faulty, Refused}
 
--- "exactly one of three answers": accepted or faulty with the report's bytes, refused with a number and a line
+-- one of three answers: "Accepted and faulty come with the report's length", here with its bytes; refused with a number and a line
 pub data Said : Type 0 where
   accepted : (text : Bytes) → Said
   faulty : (text : Bytes) → Said
   turned-away : (number line : ℕ) → Said
 
+-- accepted where there is no fault, else faulty
 unfoldable pub said-of : Rule → List Line → Said
 said-of rule [] = accepted (report-text rule [])
 said-of rule (l ∷ ls) = faulty (report-text rule (l ∷ ls))
