@@ -3,7 +3,7 @@
 use Prim.Native.Nat.{_≤_}
 use native.Mathlib.Omega.{arith}
 use lib.ListN.{length}
-use Rattle.report.specs.Lines.{header-text}
+use Rattle.paper.specs.Report.{header-text}
 use Rattle.report.proofs.LawsLines.{header-short}
 use Rattle.report.proofs.LawsReported.{reported-names}
 use borrow.Author.Needs.{needs}
