@@ -203,6 +203,32 @@ word-itself rule a =
 pub met-itself : (rule : Rule) (a b : ℕ) → a ≡ b → (a ≡ meet-word rule a b) × (cell-of a ≡ paper.meet rule (cell-of a) (cell-of b))
 met-itself rule a b e = rw (← e) (word-itself rule a, ap cell-of (word-itself rule a) ∙ met-meaning rule a a)
 
+-- words that the table leaves on the left: Conflicted under the old rule, what Absent meets there, and Unknown under the house rule
+-- where Absent does not come
+left-wins : (rule : Rule) (a b : ℕ) → winner (rule-index rule) (a / 1024 % 4) (b / 1024 % 4) ≡ 0 → meet-word rule a b ≡ a
+unfolding meet-word
+left-wins rule a b e = rw e
+
+module _ (a b : ℕ) where
+  pub old-conflicted-stays : a ≡ 2048 → meet-word Old a b ≡ a
+  unfolding meet-table
+  old-conflicted-stays e =
+      let k : a / 1024 % 4 ≡ 2 = omega arith in
+      left-wins Old a b (rw k (every-at (λ j w. w ≡ 0) (getD (getD meet-table 0 []) 2 []) (refl, (refl, (refl, (refl, tt)))) (b / 1024 % 4) (omega arith) 0))
+
+  pub old-absent-comes : b ≡ 0 → meet-word Old a b ≡ a
+  unfolding meet-table
+  old-absent-comes e =
+      let k : b / 1024 % 4 ≡ 0 = omega arith in
+      left-wins Old a b (rw k (every-at (λ j row. getD row 0 0 ≡ 0) (getD meet-table 0 []) (refl, (refl, (refl, (refl, tt)))) (a / 1024 % 4) (omega arith) []))
+
+  pub house-unknown-stays : a ≡ 1024 → (b / 1024 % 4 ≡ 0 → ⊥) → meet-word House a b ≡ a
+  unfolding meet-table
+  house-unknown-stays e d =
+      let k : a / 1024 % 4 ≡ 1 = omega arith in
+      left-wins House a b
+      (rw k (every-at (λ j w. (j ≡ 0 → ⊥) → w ≡ 0) (getD (getD meet-table 1 []) 1 []) ((λ n. absurd (n refl)), ((λ n. refl), ((λ n. refl), ((λ n. refl), tt)))) (b / 1024 % 4) (omega arith) 0 d))
+
 -- the tests of `meet`, with the table that it was lent
 module _ (rule : Rule) (a b r : ℕ) (table : List (List (List ℕ))) (et : table ≡ meet-table) (er : r ≡ rule-index rule) where
   abbrev read : ℕ

@@ -1,6 +1,6 @@
 -- Rows and states: the steps of the loops, and what two rows make of a state.
 use mathlib.Core.Path.{_≡_, refl, sym, ap, ap₂, _∙_}
-use mathlib.Core.Bool.{Bool, true, false, cond, _||_, or-true, or-false}
+use mathlib.Core.Bool.{Bool, true, false, cond, _&&_, _||_, or-true, or-false}
 use mathlib.Core.List.{List, [], _∷_, map}
 use Prim.Native.Nat.{ℕ, zero, suc, _+_, _-_, _/_, _%_, _^_, _≤_, _<_}
 use native.Mathlib.Nat.{zero-add, pow-suc, div-div-eq-div-mul, mul-comm, div-one, pow-zero, add-zero}
@@ -15,7 +15,7 @@ use Rattle.lists.specs.Region.{region, length-region, getD-region, region-below
 use Rattle.lists.specs.Maps.{any-step, map-set, map-take, take-over, region-over, copied-over}
 use Rattle.lists.specs.Kept.{Kept, kept-over, kept-then}
 use Rattle.lists.specs.Bits.{bits-from, set-bits, no-bits}
-use Rattle.lists.specs.Split.{or-left, or-right}
+use Rattle.lists.specs.Split.{by-equal, and-left, and-right, or-left, or-right}
 use Rattle.paper.specs.Text.{Name, real}
 use Rattle.paper.specs.Sheet.{Sheet, listed}
 use Rattle.paper.specs.Cells.{Cell, absent, named}
@@ -37,7 +37,7 @@ pub record Reached (i : ℕ) (f : ℕ → Cell → Cell) (row₀ row : List ℕ)
 pub none-reached : {f : ℕ → Cell → Cell} {row : List ℕ} → Reached 0 f row row
 none-reached {f} {row} = record { cells = sym (over-none 0 f (map cell-of row)) }
 
--- one cell more, changed or left
+-- one cell more
 module _ {i : ℕ} {f : ℕ → Cell → Cell} {row₀ row : List ℕ} (r : Reached i f row₀ row) where
   pub cell-step : (v : ℕ) → cell-of v ≡ f i (cell-of (getD row i 0)) → Reached (i + 1) f row₀ (set row i v)
   cell-step v e = record {
@@ -45,9 +45,6 @@ module _ {i : ℕ} {f : ℕ → Cell → Cell} {row₀ row : List ℕ} (r : Reac
         map-set cell-of row i v
         ∙ any-step i f (map cell-of row₀) absent (map cell-of row) (cell-of v) (r .cells) (e ∙ ap (f i) (sym (cell-in row i)));
   }
-
-  pub cell-stays : cell-of (getD row i 0) ≡ f i (cell-of (getD row i 0)) → Reached (i + 1) f row₀ row
-  cell-stays e = rw set-getD at (cell-step (getD row i 0) e)
 
 placed-over : (n : ℕ) (f : ℕ → Cell → Cell) (l : List Cell) → length l ≤ n → over 0 n f l ≡ placed f l
 unfolding over placed
@@ -60,11 +57,11 @@ unfolding placed
 placed-all f [] = refl
 placed-all f (x ∷ l) = ap (λ t. f x ∷ t) (placed-all f l)
 
--- the loop's end
-pub cells-done : {n : ℕ} {f : ℕ → Cell → Cell} {row₀ row : List ℕ} → Reached n f row₀ row → cells-of n row ≡ placed f (cells-of n row₀)
+-- the loop's end, for as many of its cells as count
+pub cells-done : {m : ℕ} {f : ℕ → Cell → Cell} {row₀ row : List ℕ} → Reached m f row₀ row → (n : ℕ) → n ≤ m → cells-of n row ≡ placed f (cells-of n row₀)
 unfolding cells-of
-cells-done {n} {f} {row₀} {row} r =
-    map-take cell-of n row ∙ ap (take n) (r .cells) ∙ take-over n f (map cell-of row₀)
+cells-done {m} {f} {row₀} {row} r n h =
+    map-take cell-of n row ∙ ap (take n) (r .cells) ∙ take-over n m f (map cell-of row₀) h
     ∙ placed-over n f (take n (map cell-of row₀)) (simp length-take (omega arith))
     ∙ ap (placed f) (sym (map-take cell-of n row₀))
 
@@ -112,27 +109,26 @@ unfolding listed
 none-listed f l = rw no-bits (placed-all f l)
 
 -- a state whose two rows were changed, each by its own function
-two-rows : (n m : ℕ) (f : ℕ → List Cell → List Cell) (s : List (List ℕ)) (a b : List ℕ) → length s ≡ 2
+two-rows : (n m : ℕ) (f : ℕ → List Cell → List Cell) (s : List (List ℕ)) (a b : List ℕ)
     → cells-of n a ≡ f 0 (cells-of n (getD s 0 [])) → cells-of m b ≡ f 1 (cells-of m (getD (set s 0 a) 1 []))
     → state-of (n ∷ m ∷ []) (set (set s 0 a) 1 b) ≡ placed f (state-of (n ∷ m ∷ []) s)
 unfolding state-of placed
-two-rows n m f [] a b e ea eb = absurd (omega arith)
-two-rows n m f (x ∷ []) a b e ea eb = absurd (omega arith)
-two-rows n m f (x ∷ y ∷ []) a b e ea eb = ap₂ (λ p q. p ∷ q ∷ []) ea eb
-two-rows n m f (x ∷ y ∷ z ∷ s) a b e ea eb = absurd (omega arith)
+two-rows n m f [] a b ea eb = refl
+two-rows n m f (x ∷ []) a b ea eb = ap (λ p. p ∷ []) ea
+two-rows n m f (x ∷ y ∷ s) a b ea eb = ap₂ (λ p q. p ∷ q ∷ []) ea eb
 
-pub every-row : (n m : ℕ) (f : Cell → Cell) (s : List (List ℕ)) (a b : List ℕ) → length s ≡ 2
+pub every-row : (n m : ℕ) (f : Cell → Cell) (s : List (List ℕ)) (a b : List ℕ)
     → cells-of n a ≡ map f (cells-of n (getD s 0 [])) → cells-of m b ≡ map f (cells-of m (getD (set s 0 a) 1 []))
     → state-of (n ∷ m ∷ []) (set (set s 0 a) 1 b) ≡ everywhere f (state-of (n ∷ m ∷ []) s)
 unfolding everywhere
-every-row n m f s a b e ea eb = two-rows n m (λ k. map f) s a b e ea eb ∙ placed-all (map f) _
+every-row n m f s a b ea eb = two-rows n m (λ k. map f) s a b ea eb ∙ placed-all (map f) _
 
-pub safepoint-rows : (rule : Rule) (n m mask : ℕ) (s : List (List ℕ)) (a b : List ℕ) → length s ≡ 2
+pub safepoint-rows : (rule : Rule) (n m mask : ℕ) (s : List (List ℕ)) (a b : List ℕ)
     → cells-of n a ≡ placed (λ i c. cond (listed (set-bits 0) i) c (paper.collected rule c)) (cells-of n (getD s 0 []))
     → cells-of m b ≡ placed (λ i c. cond (listed (set-bits mask) i) c (paper.collected rule c)) (cells-of m (getD (set s 0 a) 1 []))
     → state-of (n ∷ m ∷ []) (set (set s 0 a) 1 b) ≡ placed (safepoint-row rule (set-bits mask)) (state-of (n ∷ m ∷ []) s)
 unfolding safepoint-row
-safepoint-rows rule n m mask s a b e ea eb = two-rows n m (safepoint-row rule (set-bits mask)) s a b e (ea ∙ none-listed (paper.collected rule) _) eb
+safepoint-rows rule n m mask s a b ea eb = two-rows n m (safepoint-row rule (set-bits mask)) s a b (ea ∙ none-listed (paper.collected rule) _) eb
 
 -- one cell copied
 pub copied-cell : (s : List (List ℕ)) (row place other from v : ℕ) → cell-of v ≡ paper.copied (cell-of (getD (getD s other []) from 0))
@@ -147,9 +143,10 @@ stored-two : (n m at : ℕ) (w : List ℕ) → stored-state (n ∷ m ∷ []) at 
 unfolding stored-state rows-at state-of cells-of region
 stored-two n m at w = refl
 
-pub filled-front : (at n : ℕ) (l row₀ row : List ℕ) → row ≡ over 0 n (λ k x. getD l (at + k) 0) row₀ → n ≤ length row₀ → at + n ≤ length l → take n row ≡ region at n l
-filled-front at n l row₀ row e hr hl =
-    ap (take n) e ∙ take-over n (λ k x. getD l (at + k) 0) row₀ ∙ filled at n l (take n row₀) (simp length-take (omega arith)) hl
+pub filled-front : (at m : ℕ) (l row₀ row : List ℕ) → row ≡ over 0 m (λ k x. getD l (at + k) 0) row₀ → m ≤ length row₀ → at + m ≤ length l
+    → (n : ℕ) → n ≤ m → take n row ≡ region at n l
+filled-front at m l row₀ row e hr hl n h =
+    ap (take n) e ∙ take-over n m (λ k x. getD l (at + k) 0) row₀ h ∙ filled at n l (take n row₀) (simp length-take (omega arith)) (omega arith)
 
 pub loaded : (n m at : ℕ) (w a b : List ℕ) → take n a ≡ region at n w → take m b ≡ region (at + 32) m w → state-of (n ∷ m ∷ []) (a ∷ b ∷ []) ≡ stored-state (n ∷ m ∷ []) at w
 unfolding state-of cells-of
@@ -236,6 +233,15 @@ unfolding changes
 still at zero f l h = refl
 still at (suc n) f l h = rw (still at n f l (λ k q. h k (omega arith)), eq-eqb _ _ (h n (omega arith)))
 
+-- a test of each k below i, and of i
+pub all-step : (P : ℕ → Type 0) (i : ℕ) (x y : Bool) → (x ≡ true → (k : ℕ) → k < i → P k) → (y ≡ true → P i) → (x && y) ≡ true → (k : ℕ) → k < i + 1 → P k
+all-step P i x y hx hy e k h = by-equal k i (λ q. rw q (hy (and-right x y e))) λ d. hx (and-left x y e) k (omega arith)
+
+-- a row that stays
+pub row-still : (at n : ℕ) (f : ℕ → ℕ → ℕ) (l : List ℕ) → at + n ≤ length l → ((k : ℕ) → k < n → f k (getD l (at + k) 0) ≡ getD l (at + k) 0)
+    → (l ≡ over at n f l) × (false ≡ changes at n f l)
+row-still at n f l h s = let e : changes at n f l ≡ false = still at n f l s in (sym (unchanged at n f l h e), sym e)
+
 same-word : (rule : Rule) (a b : ℕ) → cell-of (meet-word rule a b) ≡ cell-of a → meet-word rule a b ≡ a
 same-word rule a b e = go (eqb (meet-word rule a b) a) refl
   where
@@ -320,7 +326,7 @@ pub row-done : {n : ℕ} {f : ℕ → Cell} {row₀ row : List ℕ} → Reached 
 unfolding cells-of
 row-done {n} {f} {row₀} {row} r h =
     let len : length (map cell-of (take n row₀)) ≡ n = simp (length-map, length-take) (omega arith) in
-    cells-done r ∙ placed-row f (map cell-of (take n row₀)) ∙ ap (λ (k : ℕ). row-of k f) len
+    cells-done r n (omega arith) ∙ placed-row f (map cell-of (take n row₀)) ∙ ap (λ (k : ℕ). row-of k f) len
 
 cells-same : (n m w : ℕ) → n ≤ m → cells-of n (replicate m w) ≡ replicate n (cell-of w)
 unfolding cells-of

@@ -1,7 +1,7 @@
-// Packed cells, their meet by a table, and a state of two rows of cells by value. A cell is a u16: its name in the nine low bits
+// Packed cells, their meet by a table, and a state of two rows of cells, by value or changed in place. A cell is a u16: its name in the nine low bits
 // (virtual v is v, real r is 256 + r), its mark at 512, and its kind at 1024 (absent 0, unknown 1, conflicted 2, named 3).
 ghost use mathlib.Core.Path.{_≡_};
-ghost use mathlib.Core.Bool.{false, cond};
+ghost use mathlib.Core.Bool.{true, false, cond};
 ghost use mathlib.Core.List.{List, [], _∷_, map};
 ghost use Prim.Native.Nat.{ℕ, _+_, _≤_, _<_};
 ghost use lib.ListN.{length, getD, take};
@@ -90,26 +90,23 @@ fn overwritten(name: u16, w: u16) -> u16
     }
 }
 
-// The first n cells of a row after the name was written elsewhere.
-fn overwrite_row(row: &mut [u16; ROW_WORDS], n: usize, name: u16)
-    requires { ⌜ n ≤ row-words ⌝ }
-    ensures { λ r. ⌜ cells-of n (now (row .exit)) ≡ map (paper.overwritten (name-of-word name)) (cells-of n (now (row .entry))) ⌝ }
+// A row after the name was written elsewhere, also its cells that do not count: a loop of fixed length is a few vector steps.
+fn overwrite_row(row: &mut [u16; ROW_WORDS], name: u16)
+    ensures { λ r. ⌜ ((n : ℕ) → n ≤ row-words → cells-of n (now (row .exit)) ≡ map (paper.overwritten (name-of-word name)) (cells-of n (now (row .entry)))) ⌝ }
 {
     let mut i = 0;
-    while i < n {
+    while i < ROW_WORDS {
         row[i] = overwritten(name, row[i]);
         i += 1;
     }
 }
 
 // The state after the name was written elsewhere: no cell holds it any more.
-pub fn overwrite(mut s: State, regs: usize, slots: usize, name: u16) -> State
-    requires { ⌜ (regs ≤ max-regs) × (slots ≤ max-slots) ⌝ }
-    ensures { λ r. ⌜ state-of (regs ∷ slots ∷ []) r ≡ everywhere (paper.overwritten (name-of-word name)) (state-of (regs ∷ slots ∷ []) s) ⌝ }
+pub fn overwrite(s: &mut State, name: u16)
+    ensures { λ r. ⌜ ((regs slots : ℕ) → regs ≤ max-regs → slots ≤ max-slots → state-of (regs ∷ slots ∷ []) (now (s .exit)) ≡ everywhere (paper.overwritten (name-of-word name)) (state-of (regs ∷ slots ∷ []) (now (s .entry)))) ⌝ }
 {
-    overwrite_row(&mut s[0], regs, name);
-    overwrite_row(&mut s[1], slots, name);
-    s
+    overwrite_row(&mut s[0], name);
+    overwrite_row(&mut s[1], name);
 }
 
 // The name to, with the mark of a cell.
@@ -160,40 +157,85 @@ fn collected(rule: Rule, w: u16) -> u16
     }
 }
 
-// The first n cells of a row at a safepoint; bit i of `kept` is set where cell i keeps its name.
-fn collect_row(rule: Rule, row: &mut [u16; ROW_WORDS], n: usize, kept: u32)
-    requires { ⌜ n ≤ row-words ⌝ }
-    ensures { λ r. ⌜ cells-of n (now (row .exit)) ≡ placed (λ i c. cond (listed (set-bits kept) i) c (paper.collected rule c)) (cells-of n (now (row .entry))) ⌝ }
+// Cell i of a row at a safepoint, which keeps its name where bit i of `kept` is set.
+fn safepoint_cell(rule: Rule, kept: u32, i: usize, w: u16) -> u16
+    requires { ⌜ i < row-words ⌝ }
+    ensures { λ r. ⌜ cell-of r ≡ cond (listed (set-bits kept) i) (cell-of w) (paper.collected rule (cell-of w)) ⌝ }
+{
+    if (kept >> i) % 2 == 0 {
+        collected(rule, w)
+    } else {
+        w
+    }
+}
+
+// A row at a safepoint, also its cells that do not count; bit i of `kept` is set where cell i keeps its name.
+fn collect_row(rule: Rule, row: &mut [u16; ROW_WORDS], kept: u32)
+    ensures { λ r. ⌜ ((n : ℕ) → n ≤ row-words → cells-of n (now (row .exit)) ≡ placed (λ i c. cond (listed (set-bits kept) i) c (paper.collected rule c)) (cells-of n (now (row .entry)))) ⌝ }
 {
     let mut i = 0;
-    while i < n {
-        if (kept >> i) % 2 == 0 {
-            row[i] = collected(rule, row[i]);
-        }
+    while i < ROW_WORDS {
+        row[i] = safepoint_cell(rule, kept, i, row[i]);
         i += 1;
     }
 }
 
 // The state behind a safepoint that lists the slots of a mask.
-pub fn update_stackmap(rule: Rule, mut s: State, regs: usize, slots: usize, mask: u32) -> State
-    requires { ⌜ (regs ≤ max-regs) × (slots ≤ max-slots) ⌝ }
-    ensures { λ r. ⌜ state-of (regs ∷ slots ∷ []) r ≡ placed (safepoint-row rule (set-bits mask)) (state-of (regs ∷ slots ∷ []) s) ⌝ }
+pub fn update_stackmap(rule: Rule, s: &mut State, mask: u32)
+    ensures { λ r. ⌜ ((regs slots : ℕ) → regs ≤ max-regs → slots ≤ max-slots → state-of (regs ∷ slots ∷ []) (now (s .exit)) ≡ placed (safepoint-row rule (set-bits mask)) (state-of (regs ∷ slots ∷ []) (now (s .entry)))) ⌝ }
 {
-    collect_row(rule, &mut s[0], regs, 0);
-    collect_row(rule, &mut s[1], slots, mask);
-    s
+    collect_row(rule, &mut s[0], 0);
+    collect_row(rule, &mut s[1], mask);
 }
 
 // One cell copied to another, as `S`, `L` and `M` do.
-pub fn copy(mut s: State, row: usize, place: usize, other: usize, from: usize) -> State
+pub fn copy(s: &mut State, row: usize, place: usize, other: usize, from: usize)
     requires { ⌜ (row < 2) × (place < row-words) × (other < 2) × (from < row-words) ⌝ }
-    ensures { λ r. ⌜ ((counts : List ℕ) → from < getD counts other 0 → state-of counts r ≡ store-at row place (paper.copied (cell-at (state-of counts s) other from)) (state-of counts s)) ⌝ }
+    ensures { λ r. ⌜ ((counts : List ℕ) → from < getD counts other 0 → state-of counts (now (s .exit)) ≡ store-at row place (paper.copied (cell-at (state-of counts (now (s .entry))) other from)) (state-of counts (now (s .entry)))) ⌝ }
 {
     s[row][place] = copied(s[other][from]);
-    s
 }
 
-// A row met into the n words from `at` on: whether a word changed.
+// Is it plain without the table that the meet leaves the left word as it is? Then both are the same, or the left one wins over all
+// that may come, or under the old rule nothing comes. Of other words the table decides.
+fn stays(rule: Rule, a: u16, b: u16) -> bool
+    ensures { λ r. ⌜ (r ≡ true → meet-word rule a b ≡ a) ⌝ }
+{
+    if a == b {
+        return true;
+    }
+    match rule {
+        Rule::Old => {
+            if a == 2048 {
+                return true;
+            }
+            b == 0
+        }
+        Rule::House => {
+            if b / 1024 % 4 == 0 {
+                return false;
+            }
+            a == 1024
+        }
+    }
+}
+
+// Is that plain of each word of the row that stands at `at`?
+fn row_stays(rule: Rule, words: &[u16], at: usize, row: &[u16; ROW_WORDS]) -> bool
+    requires { ⌜ at + row-words ≤ length (now words) ⌝ }
+    ensures { λ r. ⌜ (r ≡ true → (k : ℕ) → k < row-words → meet-at rule (now (row .entry)) k (getD (now (words .entry)) (at + k) 0) ≡ getD (now (words .entry)) (at + k) 0) ⌝ }
+{
+    let mut all = true;
+    let mut i = 0;
+    while i < ROW_WORDS {
+        let here = stays(rule, words[at + i], row[i]);
+        all = all & here;
+        i += 1;
+    }
+    all
+}
+
+// A row met into the n words from `at` on: whether a word changed. Most rows stay, which is seen before the table is asked.
 fn meet_row(
     table: &[[[u8; 4]; 4]; 2],
     rule: Rule,
@@ -202,9 +244,12 @@ fn meet_row(
     row: &[u16; ROW_WORDS],
     n: usize,
 ) -> bool
-    requires { ⌜ (now table ≡ meet-table) × (at + n ≤ length (now words)) × (n ≤ row-words) ⌝ }
+    requires { ⌜ (now table ≡ meet-table) × (at + row-words ≤ length (now words)) × (n ≤ row-words) ⌝ }
     ensures { λ r. ⌜ (now (words .exit) ≡ over at n (meet-at rule (now (row .entry))) (now (words .entry))) × (r ≡ changes at n (meet-at rule (now (row .entry))) (now (words .entry))) ⌝ }
 {
+    if row_stays(rule, words, at, row) {
+        return false;
+    }
     let mut changed = false;
     let mut i = 0;
     while i < n {
@@ -238,14 +283,14 @@ pub fn meet_with(
     a | b
 }
 
-// A row read from the n words from `at` on.
-fn load_row(words: &[u16], at: usize, n: usize) -> [u16; ROW_WORDS]
-    requires { ⌜ (at + n ≤ length (now words)) × (n ≤ row-words) ⌝ }
-    ensures { λ r. ⌜ take n r ≡ region at n (now (words .entry)) ⌝ }
+// The row that stands at `at`.
+fn load_row(words: &[u16], at: usize) -> [u16; ROW_WORDS]
+    requires { ⌜ at + row-words ≤ length (now words) ⌝ }
+    ensures { λ r. ⌜ ((n : ℕ) → n ≤ row-words → take n r ≡ region at n (now (words .entry))) ⌝ }
 {
     let mut row = [0u16; ROW_WORDS];
     let mut i = 0;
-    while i < n {
+    while i < ROW_WORDS {
         row[i] = words[at + i];
         i += 1;
     }
@@ -257,8 +302,8 @@ pub fn load(words: &[u16], at: usize, regs: usize, slots: usize) -> State
     requires { ⌜ (at + state-words ≤ length (now words)) × (regs ≤ max-regs) × (slots ≤ max-slots) ⌝ }
     ensures { λ r. ⌜ state-of (regs ∷ slots ∷ []) r ≡ stored-state (regs ∷ slots ∷ []) at (now (words .entry)) ⌝ }
 {
-    let a = load_row(words, at, regs);
-    let b = load_row(words, at + ROW_WORDS, slots);
+    let a = load_row(words, at);
+    let b = load_row(words, at + ROW_WORDS);
     [a, b]
 }
 

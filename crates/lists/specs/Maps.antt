@@ -26,16 +26,16 @@ take-set (suc n) [] i v = refl
 take-set (suc n) (x ∷ l) zero v = refl
 take-set (suc n) (x ∷ l) (suc i) v = ap (λ t. x ∷ t) (take-set n l i v)
 
-pub take-over : {A : Type 0} (n : ℕ) (f : ℕ → A → A) (l : List A) → take n (over 0 n f l) ≡ over 0 n f (take n l)
+pub take-over : {A : Type 0} (n m : ℕ) (f : ℕ → A → A) (l : List A) → n ≤ m → take n (over 0 m f l) ≡ over 0 n f (take n l)
 unfolding over
-take-over zero f [] = refl
-take-over zero f (x ∷ l) = refl
-take-over (suc n) f [] = refl
-take-over (suc n) f (x ∷ l) = ap (λ t. f 0 x ∷ t) (take-over n (λ k. f (suc k)) l)
+take-over zero m f l h = refl
+take-over (suc n) zero f l h = absurd (omega arith)
+take-over (suc n) (suc m) f [] h = refl
+take-over (suc n) (suc m) f (x ∷ l) h = ap (λ t. f 0 x ∷ t) (take-over n m (λ k. f (suc k)) l (omega arith))
 
 pub region-over : (at n : ℕ) (f : ℕ → ℕ → ℕ) (l : List ℕ) → region at n (over at n f l) ≡ over 0 n f (region at n l)
 unfolding over region
-region-over zero n f l = take-over n f l
+region-over zero n f l = take-over n n f l (omega arith)
 region-over (suc at) n f [] = rw take-nil
 region-over (suc at) n f (x ∷ l) = region-over at n f l
 

@@ -383,61 +383,71 @@ pub fn check(words: &[u16], s: State, action: Action) -> CheckerError
 }
 
 // A def: its register gets its name, which under the house rule stands nowhere else.
-fn define(rule: Rule, s: State, regs: usize, slots: usize, operand: u16) -> State
-    requires { ⌜ (regs ≤ max-regs) × (slots ≤ max-slots) × (operand / 1024 < regs) ⌝ }
-    ensures { λ r. ⌜ state-of (regs ∷ slots ∷ []) r ≡ define-word rule operand (state-of (regs ∷ slots ∷ []) s) ⌝ }
+fn define(rule: Rule, s: &mut State, operand: u16)
+    requires { ⌜ operand / 1024 < max-regs ⌝ }
+    ensures { λ r. ⌜ ((regs slots : ℕ) → regs ≤ max-regs → slots ≤ max-slots → state-of (regs ∷ slots ∷ []) (now (s .exit)) ≡ define-word rule operand (state-of (regs ∷ slots ∷ []) (now (s .entry)))) ⌝ }
 {
-    let mut t = match rule {
-        Rule::Old => s,
-        Rule::House => cells::overwrite(s, regs, slots, operand),
-    };
+    match rule {
+        Rule::Old => {}
+        Rule::House => cells::overwrite(s, operand),
+    }
     let reg = (operand / 1024) as usize;
-    t[0][reg] = 3072 + operand % 1024;
-    t
+    s[0][reg] = 3072 + operand % 1024;
 }
 
 // The defs in order.
-fn define_all(
-    words: &[u16],
-    at: usize,
-    n: usize,
-    rule: Rule,
-    s: State,
-    regs: usize,
-    slots: usize,
-) -> State
-    requires { ⌜ (at + n ≤ length (now words)) × (regs ≤ max-regs) × (slots ≤ max-slots) × ((i : ℕ) → i < n → getD (now words) (at + i) 0 / 1024 < regs) ⌝ }
-    ensures { λ r. ⌜ state-of (regs ∷ slots ∷ []) r ≡ define-words rule (region at n (now (words .entry))) (state-of (regs ∷ slots ∷ []) s) ⌝ }
+fn define_all(words: &[u16], at: usize, n: usize, rule: Rule, s: &mut State)
+    requires { ⌜ (at + n ≤ length (now words)) × ((i : ℕ) → i < n → getD (now words) (at + i) 0 / 1024 < max-regs) ⌝ }
+    ensures { λ r. ⌜ ((regs slots : ℕ) → regs ≤ max-regs → slots ≤ max-slots → state-of (regs ∷ slots ∷ []) (now (s .exit)) ≡ define-words rule (region at n (now (words .entry))) (state-of (regs ∷ slots ∷ []) (now (s .entry)))) ⌝ }
 {
-    let mut t = s;
     let mut place = at;
     let mut left = n;
     while 0 < left {
-        let u = define(rule, t, regs, slots, words[place]);
-        t = u;
+        define(rule, s, words[place]);
         place += 1;
         left -= 1;
     }
-    t
 }
 
 // An ownership change.
-fn change(rule: Rule, s: State, regs: usize, slots: usize, slot: usize, from: u16, to: u16) -> State
-    requires { ⌜ (regs ≤ max-regs) × (slots ≤ max-slots) × (slot < slots) ⌝ }
-    ensures { λ r. ⌜ ((ref : Name → Bool) (inst : ℕ) → state-of (regs ∷ slots ∷ []) r ≡ paper.effect rule ref (sheet.change inst slot (name-of-word from) (name-of-word to)) (state-of (regs ∷ slots ∷ []) s)) ⌝ }
+fn change(rule: Rule, s: &mut State, slot: usize, from: u16, to: u16)
+    requires { ⌜ slot < max-slots ⌝ }
+    ensures { λ r. ⌜ ((regs slots : ℕ) → regs ≤ max-regs → slots ≤ max-slots → slot < slots → (ref : Name → Bool) (inst : ℕ) → state-of (regs ∷ slots ∷ []) (now (s .exit)) ≡ paper.effect rule ref (sheet.change inst slot (name-of-word from) (name-of-word to)) (state-of (regs ∷ slots ∷ []) (now (s .entry)))) ⌝ }
 {
     match rule {
         Rule::Old => {
-            let mut t = s;
-            t[1][slot] = cells::old_changed(to, s[1][slot]);
-            t
+            s[1][slot] = cells::old_changed(to, s[1][slot]);
         }
         Rule::House => {
             let w = cells::house_changed(from, to, s[1][slot]);
-            let mut t = cells::overwrite(s, regs, slots, to);
-            t[1][slot] = w;
-            t
+            cells::overwrite(s, to);
+            s[1][slot] = w;
         }
+    }
+}
+
+// A step takes effect in the state that is lent.
+fn update_in(words: &[u16], rule: Rule, s: &mut State, action: Action)
+    requires { ⌜ InRange max-regs max-slots (now words) action ⌝ }
+    ensures { λ r. ⌜ ((regs slots : ℕ) → regs ≤ max-regs → slots ≤ max-slots → InRange regs slots (now (words .entry)) action → (ref : Name → Bool) → Honest ref (now (words .entry)) action → state-of (regs ∷ slots ∷ []) (now (s .exit)) ≡ paper.effect rule ref (step-of (now (words .entry)) action) (state-of (regs ∷ slots ∷ []) (now (s .entry)))) ⌝ }
+{
+    match action {
+        Action::Spill { slot, reg } => cells::copy(s, 1, slot, 0, reg),
+        Action::Reload { reg, slot } => cells::copy(s, 0, reg, 1, slot),
+        Action::Move { into, from } => cells::copy(s, 0, into, 0, from),
+        Action::Change {
+            inst: _,
+            slot,
+            from,
+            to,
+        } => change(rule, s, slot, from, to),
+        Action::Operation {
+            inst: _,
+            at,
+            uses: _,
+            defs,
+        } => define_all(words, at + DEFS_FROM, defs, rule, s),
+        Action::Safepoint { inst: _, mask } => cells::update_stackmap(rule, s, mask),
     }
 }
 
@@ -453,24 +463,9 @@ pub fn update(
     requires { ⌜ (regs ≤ max-regs) × (slots ≤ max-slots) × InRange regs slots (now words) action ⌝ }
     ensures { λ r. ⌜ ((ref : Name → Bool) → Honest ref (now (words .entry)) action → state-of (regs ∷ slots ∷ []) r ≡ paper.effect rule ref (step-of (now (words .entry)) action) (state-of (regs ∷ slots ∷ []) s)) ⌝ }
 {
-    match action {
-        Action::Spill { slot, reg } => cells::copy(s, 1, slot, 0, reg),
-        Action::Reload { reg, slot } => cells::copy(s, 0, reg, 1, slot),
-        Action::Move { into, from } => cells::copy(s, 0, into, 0, from),
-        Action::Change {
-            inst: _,
-            slot,
-            from,
-            to,
-        } => change(rule, s, regs, slots, slot, from, to),
-        Action::Operation {
-            inst: _,
-            at,
-            uses: _,
-            defs,
-        } => define_all(words, at + DEFS_FROM, defs, rule, s, regs, slots),
-        Action::Safepoint { inst: _, mask } => cells::update_stackmap(rule, s, regs, slots, mask),
-    }
+    let mut after = s;
+    update_in(words, rule, &mut after, action);
+    after
 }
 
 // The steps of a block, one after the other.
@@ -491,8 +486,7 @@ pub fn effects(
     let mut left = count;
     while 0 < left {
         let action = action_at(words, k);
-        let u = update(words, rule, t, regs, slots, action);
-        t = u;
+        update_in(words, rule, &mut t, action);
         k += 1;
         left -= 1;
     }

@@ -1,4 +1,4 @@
--- `load_row` meets its contract: before each turn the row's first i words are those from `at` on, and n - i falls.
+-- `load_row` meets its contract: before each turn the row's first i words are those from `at` on, and 32 - i falls.
 use mathlib.Core.Path.{_≡_, refl, sym}
 use Prim.Native.Nat.{_+_, _≤_, _-_}
 use native.Mathlib.Omega.{arith}
@@ -11,10 +11,10 @@ use Rattle.cells.proofs.load_row.Statement.{statement}
 use Rattle.cells.proofs.load_row.Tie as tie
 
 abbrev Inv-loop : tie.InvT-loop
-Inv-loop words at n row₀ i₀ row i = (i ≤ n) × (length row₀ ≡ 32) × (row ≡ over 0 i (λ k x. getD words (at + k) 0) row₀)
+Inv-loop words at row₀ i₀ row i = (i ≤ 32) × (length row₀ ≡ 32) × (row ≡ over 0 i (λ k x. getD words (at + k) 0) row₀)
 
 abbrev μ-loop : tie.MeasureT-loop
-μ-loop words at n row₀ i₀ row i = n - i
+μ-loop words at row₀ i₀ row i = 32 - i
 
 loop-holds : tie.Need-loop-holds Inv-loop μ-loop
 loop-holds c = (search needs, refl, sym (over-none _ _ _))
@@ -44,10 +44,10 @@ loop-again : tie.Need-loop-again Inv-loop μ-loop
 loop-again c = let l = c .before .before .loop .inv in (omega arith, l .1, any-step _ _ _ 0 _ _ (l .2) refl)
 
 returns : tie.Need-returns Inv-loop μ-loop
-returns c =
+returns c n h =
     let l = c .before .loop .inv in
-    let e : c .before .loop .i ≡ c .before .before .args .n = omega arith in
-    filled-front _ _ _ _ _ (rw e at (l .2)) (omega arith) (omega arith)
+    let e : c .before .loop .i ≡ 32 = omega arith in
+    filled-front _ _ _ _ _ (rw e at (l .2)) (omega arith) (omega arith) n h
 
 pub load-row-spec : {M : Type 1} → statement M
 load-row-spec =

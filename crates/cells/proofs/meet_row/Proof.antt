@@ -1,5 +1,5 @@
 -- `meet_row` meets its contract: before each turn the first i words are met with the row's, the others as they were, and `changed`
--- says whether one of the i is another word now; n - i falls.
+-- says whether one of the i is another word now; n - i falls. A row that stays in all its cells stays in the first n (`row-still`).
 use mathlib.Core.Logic.{⊎-elim}
 use mathlib.Core.Path.{_≡_, refl, sym, _∙_}
 use Prim.Native.Nat.{_+_, _≤_, _<_, _-_}
@@ -8,7 +8,7 @@ use borrow.Author.Needs.{needs}
 use lib.ListN.{length, length-set}
 use Rattle.lists.specs.Over.{over, over-none, over-step}
 use Rattle.cells.specs.States.{changes, meet-at}
-use Rattle.cells.proofs.Rows.{word-moved, word-stays}
+use Rattle.cells.proofs.Rows.{word-moved, word-stays, row-still}
 use Rattle.cells.proofs.meet_row.Statement.{statement}
 use Rattle.cells.proofs.meet_row.Tie as tie
 
@@ -21,6 +21,20 @@ Inv-loop table rule words₀ at row n changed₀ i₀ words changed i =
 
 abbrev μ-loop : tie.MeasureT-loop
 μ-loop table rule words₀ at row n changed₀ i₀ words changed i = n - i
+
+abbrev start-of : tie.At-loop Inv-loop μ-loop → tie.Start Inv-loop μ-loop
+start-of c = c .before .before .before .before .before
+
+row-stays-requires : tie.Need-row-stays-requires Inv-loop μ-loop
+row-stays-requires c κs = search needs
+
+same-length : tie.Need-same-length Inv-loop μ-loop
+same-length c = search needs
+
+returns : tie.Need-returns Inv-loop μ-loop
+returns c =
+    let r = c .before in
+    row-still _ _ _ _ (omega arith) λ k h. r .row-stays .ensures (c .if1 .taken) k (omega arith)
 
 loop-holds : tie.Need-loop-holds Inv-loop μ-loop
 unfolding changes
@@ -60,22 +74,23 @@ loop-again : tie.Need-loop-again Inv-loop μ-loop
 loop-again c =
     let l = c .before .before .before .before .before in
     let inv = l .loop .inv in
-    let fits : l .before .before .args .at + l .loop .i < length (l .before .before .args .words .now) = omega arith in (
+    let s = start-of l in
+    let fits : s .args .at + l .loop .i < length (s .args .words .now) = omega arith in (
       omega arith,
       simp length-set (inv .1),
       over-step _ _ _ _ 0 _ _ fits (inv .2) (c .before .meet .ensures .0),
       ⊎-elim
           (λ w. w .1 ∙ word-moved _ _ _ _ _ _ fits (inv .2) (c .before .meet .ensures .0) (w .0 .taken))
           (λ w. w .1 ∙ word-stays _ _ _ _ _ _ fits (inv .2) (c .before .meet .ensures .0) _ (inv .3) (w .0 .left))
-          (c .if1 .came),
+          (c .if2 .came),
     )
 
-same-length : tie.Need-same-length Inv-loop μ-loop
-same-length c = search needs
+same-length-2 : tie.Need-same-length-2 Inv-loop μ-loop
+same-length-2 c = search needs
 
-returns : tie.Need-returns Inv-loop μ-loop
-returns c =
-    let e : c .before .loop .i ≡ c .before .before .before .args .n = omega arith in
+returns-2 : tie.Need-returns-2 Inv-loop μ-loop
+returns-2 c =
+    let e : c .before .loop .i ≡ start-of (c .before) .args .n = omega arith in
     (rw (← e) (c .before .loop .inv .2), rw (← e) (c .before .loop .inv .3))
 
 pub meet-row-spec : {M : Type 1} → statement M
@@ -84,6 +99,9 @@ meet-row-spec =
     (tie.spec
     Inv-loop
     μ-loop
+    row-stays-requires
+    same-length
+    returns
     loop-holds
     add-j
     mul-old
@@ -96,5 +114,5 @@ meet-row-spec =
     add-i
     loop-less
     loop-again
-    same-length
-    returns)
+    same-length-2
+    returns-2)

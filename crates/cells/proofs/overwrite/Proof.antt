@@ -17,9 +17,8 @@ overwrite-row-requires-2 : tie.Need-overwrite-row-requires-2
 overwrite-row-requires-2 c κs = search needs
 
 returns : tie.Need-returns
-returns c =
-    let s = c .before .before .before .before in
-    every-row _ _ _ (s .args .t1) _ _ (search needs) (c .before .before .overwrite-row .ensures) (c .overwrite-row2 .ensures)
+returns c regs slots hr hs =
+    every-row _ _ _ _ _ _ (c .before .before .overwrite-row .ensures _ hr) (c .overwrite-row2 .ensures _ hs)
 
 pub overwrite-spec : {M : Type 1} → statement M
 overwrite-spec =

@@ -1,4 +1,4 @@
--- `overwrite_row` meets its contract: before each turn the first i cells are overwritten, the others as they were; n - i falls.
+-- `overwrite_row` meets its contract: before each turn the first i cells are overwritten, the others as they were; 32 - i falls.
 use mathlib.Core.Path.{_≡_, _∙_}
 use Prim.Native.Nat.{_≤_, _-_}
 use native.Mathlib.Omega.{arith}
@@ -10,10 +10,10 @@ use Rattle.cells.proofs.overwrite_row.Statement.{statement}
 use Rattle.cells.proofs.overwrite_row.Tie as tie
 
 abbrev Inv-loop : tie.InvT-loop
-Inv-loop row₀ n name i₀ row i = (i ≤ n) × Reached i (λ k. overwritten (name-of-word name)) row₀ row
+Inv-loop row₀ name i₀ row i = (i ≤ 32) × Reached i (λ k. overwritten (name-of-word name)) row₀ row
 
 abbrev μ-loop : tie.MeasureT-loop
-μ-loop row₀ n name i₀ row i = n - i
+μ-loop row₀ name i₀ row i = 32 - i
 
 loop-holds : tie.Need-loop-holds Inv-loop μ-loop
 loop-holds c = (search needs, none-reached)
@@ -43,9 +43,9 @@ loop-again : tie.Need-loop-again Inv-loop μ-loop
 loop-again c = (omega arith, cell-step (c .before .before .before .loop .inv .1) _ (c .overwritten .ensures))
 
 returns : tie.Need-returns Inv-loop μ-loop
-returns c =
-    let e : c .before .loop .i ≡ c .before .before .args .n = omega arith in
-    cells-done (rw e at (c .before .loop .inv .1)) ∙ placed-all _ _
+returns c n h =
+    let e : c .before .loop .i ≡ 32 = omega arith in
+    cells-done (rw e at (c .before .loop .inv .1)) n h ∙ placed-all _ _
 
 pub overwrite-row-spec : {M : Type 1} → statement M
 overwrite-row-spec =

@@ -17,9 +17,8 @@ collect-row-requires-2 : tie.Need-collect-row-requires-2
 collect-row-requires-2 c κs = search needs
 
 returns : tie.Need-returns
-returns c =
-    let s = c .before .before .before .before in
-    safepoint-rows _ _ _ _ (s .args .t2) _ _ (search needs) (c .before .before .collect-row .ensures) (c .collect-row2 .ensures)
+returns c regs slots hr hs =
+    safepoint-rows _ _ _ _ _ _ _ (c .before .before .collect-row .ensures _ hr) (c .collect-row2 .ensures _ hs)
 
 pub update-stackmap-spec : {M : Type 1} → statement M
 update-stackmap-spec =

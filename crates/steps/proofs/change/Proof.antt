@@ -1,5 +1,6 @@
 -- `change` meets its contract: one case for each rule; the slot is below the count, so the word that is read means the state's
 -- cell; under the house rule what becomes of it is stored in the state that `overwrite` leaves.
+use mathlib.Core.List.{[], _∷_}
 use borrow.Author.Needs.{needs}
 use Rattle.steps.proofs.LawsEffects.{old-change, house-change}
 use Rattle.steps.proofs.change.Statement.{statement}
@@ -20,14 +21,14 @@ index-2-old-changed c = search needs
 old-changed-requires : tie.Need-old-changed-requires
 old-changed-requires c κs = search needs
 
-mul-t : tie.Need-mul-t
-mul-t c = search needs
+mul-s : tie.Need-mul-s
+mul-s c = search needs
 
-index-1-t : tie.Need-index-1-t
-index-1-t c = search needs
+index-1-s : tie.Need-index-1-s
+index-1-s c = search needs
 
-index-2-t : tie.Need-index-2-t
-index-2-t c = search needs
+index-2-s : tie.Need-index-2-s
+index-2-s c = search needs
 
 enum-told-2 : tie.Need-enum-told-2
 enum-told-2 c = search needs
@@ -45,28 +46,28 @@ house-changed-requires : tie.Need-house-changed-requires
 house-changed-requires c κs = search needs
 
 overwrite-requires : tie.Need-overwrite-requires
-overwrite-requires c κs = let s = c .before .before .before .before in (s .pre .0, s .pre .1)
+overwrite-requires c κs = search needs
 
-mul-t-2 : tie.Need-mul-t-2
-mul-t-2 c = search needs
+mul-s-2 : tie.Need-mul-s-2
+mul-s-2 c = search needs
 
-index-1-t-2 : tie.Need-index-1-t-2
-index-1-t-2 c = search needs
+index-1-s-2 : tie.Need-index-1-s-2
+index-1-s-2 c = search needs
 
-index-2-t-2 : tie.Need-index-2-t-2
-index-2-t-2 c = search needs
+index-2-s-2 : tie.Need-index-2-s-2
+index-2-s-2 c = search needs
 
 returns : tie.Need-returns
-returns c =
+returns c regs slots hr hs h ref inst =
     let s = c .before .before .before .before in
-    λ ref inst. rw (c .before .before .enum-told .given .1) (old-change _ (s .args .t2) _ _ _ (s .pre .2) ref inst _ (c .old-changed .ensures))
+    rw (c .before .before .enum-told .given .1) (old-change (regs ∷ slots ∷ []) (s .args .s .now) _ _ _ h ref inst _ (c .old-changed .ensures))
 
 returns-2 : tie.Need-returns-2
-returns-2 c =
-    let s = c .before .before .before .before .before in
-    λ ref inst.
-    rw (c .before .before .before .enum-told2 .given .1)
-    (house-change _ (s .args .t2) _ _ _ (s .pre .2) ref inst _ _ (c .before .house-changed .ensures) (c .overwrite .ensures))
+returns-2 c regs slots hr hs h ref inst =
+    let w = c .before .before in
+    let s = w .before .before .before .before in
+    rw (w .before .before .enum-told2 .given .1)
+    (house-change (regs ∷ slots ∷ []) (s .args .s .now) _ _ _ h ref inst _ _ (w .house-changed .ensures) (c .overwrite .ensures regs slots hr hs))
 
 pub change-spec : {M : Type 1} → statement M
 change-spec =
@@ -77,17 +78,17 @@ change-spec =
     index-1-old-changed
     index-2-old-changed
     old-changed-requires
-    mul-t
-    index-1-t
-    index-2-t
+    mul-s
+    index-1-s
+    index-2-s
     enum-told-2
     mul-house-changed
     index-1-house-changed
     index-2-house-changed
     house-changed-requires
     overwrite-requires
-    mul-t-2
-    index-1-t-2
-    index-2-t-2
+    mul-s-2
+    index-1-s-2
+    index-2-s-2
     returns
     returns-2)

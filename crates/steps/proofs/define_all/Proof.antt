@@ -2,11 +2,12 @@
 -- the first state; there is one less each turn.
 use mathlib.Core.List.{[], _∷_}
 use mathlib.Core.Path.{_≡_, refl, _∙_}
-use Prim.Native.Nat.{_+_, _/_, _≤_, _<_}
+use Prim.Native.Nat.{ℕ, _+_, _/_, _≤_, _<_}
 use native.Mathlib.Omega.{arith}
 use borrow.Author.Needs.{needs}
 use Rattle.lists.specs.Regions.{at-place}
 use Rattle.lists.specs.Region.{region}
+use Rattle.paper.specs.Limits.{max-regs, max-slots}
 use Rattle.cells.specs.States.{state-of}
 use Rattle.steps.specs.Defs.{define-words}
 use Rattle.steps.proofs.LawsEffects.{no-def, next-def}
@@ -14,15 +15,16 @@ use Rattle.steps.proofs.define_all.Statement.{statement}
 use Rattle.steps.proofs.define_all.Tie as tie
 
 abbrev Inv-loop : tie.InvT-loop
-Inv-loop words at n rule regs slots t₀ place₀ left₀ t place left =
+Inv-loop words at n rule s₀ place₀ left₀ s place left =
     (place + left ≡ at + n) × (at ≤ place)
-    × (define-words rule (region place left words) (state-of (regs ∷ slots ∷ []) t) ≡ define-words rule (region at n words) (state-of (regs ∷ slots ∷ []) t₀))
+    × ((regs slots : ℕ) → regs ≤ max-regs → slots ≤ max-slots
+    → define-words rule (region place left words) (state-of (regs ∷ slots ∷ []) s) ≡ define-words rule (region at n words) (state-of (regs ∷ slots ∷ []) s₀))
 
 abbrev μ-loop : tie.MeasureT-loop
-μ-loop words at n rule regs slots t₀ place₀ left₀ t place left = left
+μ-loop words at n rule s₀ place₀ left₀ s place left = left
 
 loop-holds : tie.Need-loop-holds Inv-loop μ-loop
-loop-holds c = (refl, search needs, refl)
+loop-holds c = (refl, search needs, λ regs slots hr hs. refl)
 
 mul-define : tie.Need-mul-define Inv-loop μ-loop
 mul-define c = search needs
@@ -32,9 +34,9 @@ shared-slice-read-define c = search needs
 
 define-requires : tie.Need-define-requires Inv-loop μ-loop
 define-requires c κs =
-    let l = c .before .before in
+    let l = c .before .before .before in
     let s = l .before .before in
-    (s .pre .1, s .pre .2, at-place (λ w. w / 1024 < s .args .regs) _ _ (s .args .words .now) _ (s .pre .3) (l .loop .inv .1) (omega arith))
+    at-place (λ w. w / 1024 < max-regs) _ _ (s .args .words .now) _ (s .pre .1) (l .loop .inv .1) (omega arith)
 
 add-place : tie.Need-add-place Inv-loop μ-loop
 add-place c = search needs
@@ -47,14 +49,16 @@ loop-less c = search needs
 
 loop-again : tie.Need-loop-again Inv-loop μ-loop
 loop-again c =
-    let l = c .before .before .before in (
+    let t = c .before .before .before in
+    let l = t .before in (
       omega arith,
       omega arith,
-      rw (c .define .ensures) (next-def _ _ _ _ _ (c .before .before .loop-test .taken) (omega arith)) ∙ l .loop .inv .2,
+      λ regs slots hr hs.
+          rw (c .define .ensures regs slots hr hs) (next-def _ _ _ _ _ (t .loop-test .taken) (omega arith)) ∙ l .loop .inv .2 regs slots hr hs,
     )
 
 returns : tie.Need-returns Inv-loop μ-loop
-returns c = no-def _ _ _ _ _ (c .loop-test .left) ∙ c .before .loop .inv .2
+returns c regs slots hr hs = no-def _ _ _ _ _ (c .loop-test .left) ∙ c .before .loop .inv .2 regs slots hr hs
 
 pub define-all-spec : {M : Type 1} → statement M
 define-all-spec =

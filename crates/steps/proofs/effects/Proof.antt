@@ -8,7 +8,8 @@ use native.Mathlib.Omega.{arith}
 use borrow.Author.Needs.{needs}
 use Rattle.paper.specs.Text.{Name}
 use Rattle.cells.specs.States.{state-of}
-use Rattle.steps.specs.Actions.{steps-at, HonestSteps}
+use Rattle.steps.specs.Actions.{steps-at, InRange, HonestSteps}
+use Rattle.steps.specs.Laws.{in-range-most}
 use Rattle.steps.proofs.LawsEffects.{no-step, next-step}
 use Rattle.steps.proofs.effects.Statement.{statement}
 use Rattle.paper.specs.Steps as paper
@@ -29,11 +30,21 @@ loop-holds c = (refl, search needs, λ ref h. refl)
 action-at-requires : tie.Need-action-at-requires Inv-loop μ-loop
 action-at-requires c κs = let p = c .before .before .before .pre in (omega arith, p .words-fit)
 
-update-requires : tie.Need-update-requires Inv-loop μ-loop
-update-requires c κs =
+abbrev start-of : tie.At-loop Inv-loop μ-loop → tie.Start Inv-loop μ-loop
+start-of c = c .before .before
+
+-- the step of a turn is in range
+in-range : (c : tie.After-action-at Inv-loop μ-loop) →
+    let a = start-of (c .before .before) .args in
+    InRange (a .regs) (a .slots) (a .words .now) (c .action-at .result)
+in-range c =
     let l = c .before .before in
-    let p = l .before .before .pre in
-    (omega arith, omega arith, rw (c .action-at .ensures) (p .in-range _ (l .loop .inv .1) (omega arith)))
+    rw (c .action-at .ensures) (start-of l .pre .in-range _ (l .loop .inv .1) (omega arith))
+
+update-in-requires : tie.Need-update-in-requires Inv-loop μ-loop
+update-in-requires c κs =
+    let s = start-of (c .before .before .before) in
+    in-range-most _ _ (s .args .words .now) (c .before .action-at .result) (s .pre .regs-fit) (s .pre .slots-fit) (in-range (c .before))
 
 add-k : tie.Need-add-k Inv-loop μ-loop
 add-k c = search needs
@@ -46,12 +57,15 @@ loop-less c = search needs
 
 loop-again : tie.Need-loop-again Inv-loop μ-loop
 loop-again c =
-    let l = c .before .before .before in (
+    let a = c .before .before in
+    let l = a .before .before in
+    let s = start-of l in (
       omega arith,
       omega arith,
       λ ref h.
-          rw (c .update .ensures ref (rw (c .before .action-at .ensures) (h _ (l .loop .inv .1) (omega arith))), c .before .action-at .ensures)
-          (next-step _ ref _ _ _ _ (c .before .before .loop-test .taken))
+          let honest = h _ (l .loop .inv .1) (omega arith) in
+          rw (c .update-in .ensures _ _ (s .pre .regs-fit) (s .pre .slots-fit) (in-range a) ref (rw (a .action-at .ensures) honest), a .action-at .ensures)
+          (next-step _ ref _ _ _ _ (a .before .loop-test .taken))
           ∙ l .loop .inv .2 ref h,
     )
 
@@ -66,7 +80,7 @@ effects-spec =
     μ-loop
     loop-holds
     action-at-requires
-    update-requires
+    update-in-requires
     add-k
     sub-left
     loop-less

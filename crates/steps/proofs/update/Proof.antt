@@ -1,120 +1,13 @@
--- `update` meets its contract: one case for each kind of step; what the function called says of the state is the paper's effect,
--- by a law of `LawsEffects` or, for `C`, by `change` itself.
-use mathlib.Core.List.{[], _∷_}
-use mathlib.Core.Path.{_∙_}
-use native.Mathlib.Omega.{arith}
-use borrow.Author.Needs.{needs}
-use Rattle.steps.specs.Actions.{step-of}
-use Rattle.steps.proofs.LawsEffects.{spill-effect, reload-effect, move-effect, safepoint-effect, operation-effect}
+-- `update` meets its contract: the state that it was given is lent to `update_in`, whose contract holds of any counts.
+use Rattle.steps.specs.Laws.{in-range-most}
 use Rattle.steps.proofs.update.Statement.{statement}
 use Rattle.steps.proofs.update.Tie as tie
 
-enum-known-action : tie.Need-enum-known-action
-enum-known-action c = search needs
-
-copy-requires : tie.Need-copy-requires
-copy-requires c κs = let s = c .before .before .before .before in omega (arith, s, rw (c .before .action .given .1) at (s .pre .2))
-
-enum-known-action-2 : tie.Need-enum-known-action-2
-enum-known-action-2 c = search needs
-
-copy-requires-2 : tie.Need-copy-requires-2
-copy-requires-2 c κs = let s = c .before .before .before .before in omega (arith, s, rw (c .before .action2 .given .1) at (s .pre .2))
-
-enum-known-action-3 : tie.Need-enum-known-action-3
-enum-known-action-3 c = search needs
-
-copy-requires-3 : tie.Need-copy-requires-3
-copy-requires-3 c κs = let s = c .before .before .before .before in omega (arith, s, rw (c .before .action3 .given .1) at (s .pre .2))
-
-enum-known-action-4 : tie.Need-enum-known-action-4
-enum-known-action-4 c = search needs
-
-change-requires : tie.Need-change-requires
-change-requires c κs = let s = c .before .before .before .before in (s .pre .0, s .pre .1, rw (c .before .action4 .given .1) at (s .pre .2))
-
-enum-known-action-5 : tie.Need-enum-known-action-5
-enum-known-action-5 c = search needs
-
-add-define-all : tie.Need-add-define-all
-add-define-all c = let s = c .before .before .before .before in omega (arith, rw (c .before .action5 .given .1) at (s .pre .2))
-
-define-all-requires : tie.Need-define-all-requires
-define-all-requires c κs =
-    let s = c .before .before .before .before in
-    let r = rw (c .before .action5 .given .1) at (s .pre .2) in
-    (omega arith, s .pre .0, s .pre .1, r .4)
-
-enum-known-action-6 : tie.Need-enum-known-action-6
-enum-known-action-6 c = search needs
-
-update-stackmap-requires : tie.Need-update-stackmap-requires
-update-stackmap-requires c κs = let s = c .before .before .before .before in (s .pre .0, s .pre .1)
+update-in-requires : tie.Need-update-in-requires
+update-in-requires c κs = let s = c .before .before in in-range-most _ _ (s .args .words .now) (s .args .action) (s .pre .0) (s .pre .1) (s .pre .2)
 
 returns : tie.Need-returns
-unfolding step-of
-returns c =
-    let a = c .before .before in
-    let s = a .before .before .before in
-    λ ref h.
-    rw (a .action .given .1)
-    (c .copy .ensures (s .args .regs ∷ s .args .slots ∷ []) ((rw (a .action .given .1) at (s .pre .2)) .1) ∙ spill-effect _ ref _ _ _)
-
-returns-2 : tie.Need-returns-2
-unfolding step-of
-returns-2 c =
-    let a = c .before .before in
-    let s = a .before .before .before in
-    λ ref h.
-    rw (a .action2 .given .1)
-    (c .copy2 .ensures (s .args .regs ∷ s .args .slots ∷ []) ((rw (a .action2 .given .1) at (s .pre .2)) .1) ∙ reload-effect _ ref _ _ _)
-
-returns-3 : tie.Need-returns-3
-unfolding step-of
-returns-3 c =
-    let a = c .before .before in
-    let s = a .before .before .before in
-    λ ref h.
-    rw (a .action3 .given .1)
-    (c .copy3 .ensures (s .args .regs ∷ s .args .slots ∷ []) ((rw (a .action3 .given .1) at (s .pre .2)) .1) ∙ move-effect _ ref _ _ _)
-
-returns-4 : tie.Need-returns-4
-unfolding step-of
-returns-4 c = λ ref h. rw (c .before .before .action4 .given .1) (c .change .ensures ref _)
-
-returns-5 : tie.Need-returns-5
-unfolding step-of
-returns-5 c =
-    let a = c .before .before in
-    let s = a .before .before .before in
-    λ ref h.
-    let r = rw (a .action5 .given .1) at (s .pre .2) in
-    rw (a .action5 .given .1) (c .define-all .ensures ∙ operation-effect _ ref _ _ _ _ _ _ (omega arith) (rw (a .action5 .given .1) at h))
-
-returns-6 : tie.Need-returns-6
-unfolding step-of
-returns-6 c = λ ref h. rw (c .before .before .action6 .given .1) (c .update-stackmap .ensures ∙ safepoint-effect _ ref _ _ _)
+returns c = let p = c .before .before .before .pre in c .update-in .ensures _ _ (p .0) (p .1) (p .2)
 
 pub update-spec : {M : Type 1} → statement M
-update-spec =
-    tie.close
-    (tie.spec
-    enum-known-action
-    copy-requires
-    enum-known-action-2
-    copy-requires-2
-    enum-known-action-3
-    copy-requires-3
-    enum-known-action-4
-    change-requires
-    enum-known-action-5
-    add-define-all
-    define-all-requires
-    enum-known-action-6
-    update-stackmap-requires
-    returns
-    returns-2
-    returns-3
-    returns-4
-    returns-5
-    returns-6)
+update-spec = tie.close (tie.spec update-in-requires returns)
