@@ -200,8 +200,8 @@ word-itself rule a =
     let w = winner (rule-index rule) (a / 1024 % 4) (a / 1024 % 4) in
     rw (eq-eqb (a % 512) (a % 512) refl) (by-itself (eqb w 0) (eqb w 1) (marked a) a)
 
-pub met-itself : (rule : Rule) (a b : ℕ) → a ≡ b → (a ≡ meet-word rule a b) × (cell-of a ≡ paper.meet rule (cell-of a) (cell-of b))
-met-itself rule a b e = rw (← e) (word-itself rule a, ap cell-of (word-itself rule a) ∙ met-meaning rule a a)
+pub same-stays : (rule : Rule) (a b : ℕ) → a ≡ b → meet-word rule a b ≡ a
+same-stays rule a b e = rw (← e) (sym (word-itself rule a))
 
 -- words that the table leaves on the left: Conflicted under the old rule, what Absent meets there, and Unknown under the house rule
 -- where Absent does not come

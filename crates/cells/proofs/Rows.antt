@@ -3,7 +3,7 @@ use mathlib.Core.Path.{_≡_, refl, sym, ap, ap₂, _∙_}
 use mathlib.Core.Bool.{Bool, true, false, cond, _&&_, _||_, or-true, or-false}
 use mathlib.Core.List.{List, [], _∷_, map}
 use Prim.Native.Nat.{ℕ, zero, suc, _+_, _-_, _/_, _%_, _^_, _≤_, _<_}
-use native.Mathlib.Nat.{zero-add, pow-suc, div-div-eq-div-mul, mul-comm, div-one, pow-zero, add-zero}
+use native.Mathlib.Nat.{zero-add, pow-suc, div-div-eq-div-mul, mul-comm, div-one, pow-zero, add-zero, add-suc}
 use native.Mathlib.Numerals.{add-one}
 use native.Mathlib.Omega.{arith}
 use borrow.Author.Tests.{eq-eqb, ne-eqb, eqb-true, eqb-false, not-false, le-ltb}
@@ -14,7 +14,8 @@ use Rattle.lists.specs.Over.{over, over-none, over-more, getD-over-in, getD-ove
 use Rattle.lists.specs.Region.{region, length-region, getD-region, region-below, region-above, filled}
 use Rattle.lists.specs.Maps.{any-step, map-set, map-take, take-over, region-over, copied-over}
 use Rattle.lists.specs.Kept.{Kept, kept-over, kept-then}
-use Rattle.lists.specs.Bits.{bits-from, set-bits, no-bits}
+use Rattle.lists.specs.Regions.{All}
+use Rattle.lists.specs.Bits.{bits-from, set-bits, bits-above, no-bits}
 use Rattle.lists.specs.Split.{by-equal, and-left, and-right, or-left, or-right}
 use Rattle.paper.specs.Text.{Name, real}
 use Rattle.paper.specs.Sheet.{Sheet, listed}
@@ -26,7 +27,7 @@ use Rattle.paper.specs.declared.Rule.{Rule}
 use Rattle.paper.specs.declared.Rule.the-variants.{Old, House}
 use Rattle.cells.specs.Packed.{name-of-word, marked, of-kind, cell-of}
 use Rattle.cells.specs.Meeting.{meet-word}
-use Rattle.cells.specs.States.{cells-of, state-of, rows-at, stored-state, changes, meet-at, MetWith, Stored}
+use Rattle.cells.specs.States.{cells-of, state-of, rows-at, stored-state, changes, Stays, meet-at, MetWith, Stored}
 use Rattle.cells.specs.Laws.{made, cell-in, state-cell, state-store}
 use Rattle.cells.proofs.Laws.{met-meaning, met-moves}
 
@@ -66,14 +67,10 @@ cells-done {m} {f} {row₀} {row} r n h =
     ∙ ap (placed f) (sym (map-take cell-of n row₀))
 
 -- the bits of a mask, listed
-listed-below : (k i m n : ℕ) → n < i → listed (bits-from k i m) n ≡ false
-unfolding listed bits-from
-listed-below zero i m n h = refl
-listed-below (suc k) i m n h = go (eqb (m % 2) 1) (bits-from k (i + 1) (m / 2)) (listed-below k (i + 1) (m / 2) n (omega arith))
-  where
-    go : (b : Bool) (rest : List ℕ) → listed rest n ≡ false → listed (cond b (i ∷ rest) rest) n ≡ false
-    go true rest e = rw (ne-eqb i n (omega arith), e)
-    go false rest e = e
+pub unlisted : (l : List ℕ) (n : ℕ) → All (λ b. n < b) l → listed l n ≡ false
+unfolding listed All
+unlisted [] n a = refl
+unlisted (b ∷ l) n a = rw (ne-eqb b n (omega (arith, a .0)), unlisted l n (a .1))
 
 listed-from : (k i m j : ℕ) → j < k → listed (bits-from k i m) (i + j) ≡ eqb (m / 2 ^ j % 2) 1
 unfolding listed bits-from
@@ -82,7 +79,7 @@ listed-from (suc k) i m zero h = rw (pow-zero, div-one, add-zero) (go (eqb (m % 
   where
     go : (b : Bool) → listed (cond b (i ∷ bits-from k (i + 1) (m / 2)) (bits-from k (i + 1) (m / 2))) i ≡ b
     go true = rw (eq-eqb i i refl)
-    go false = listed-below k (i + 1) (m / 2) i (omega arith)
+    go false = unlisted (bits-from k (i + 1) (m / 2)) i (bits-above k (i + 1) (m / 2) i (omega arith))
 listed-from (suc k) i m (suc j) h =
     let half : m / 2 ^ suc j ≡ m / 2 / 2 ^ j = ap (λ (p : ℕ). m / p) (pow-suc 2 j ∙ mul-comm (2 ^ j) 2) ∙ sym (div-div-eq-div-mul m 2 (2 ^ j)) in
     let place : i + suc j ≡ i + 1 + j = omega arith in
@@ -219,28 +216,53 @@ module _ (f : ℕ → ℕ → ℕ) (at i : ℕ) (l words : List ℕ) (new : ℕ)
   unfolding changes
   word-stays b eb e = rw (add-one, eq-eqb _ _ (sym new-is ∙ e ∙ old-is), or-false) eb
 
--- `changes` is exact: where it is false the list stays, and where the cells stay it is false
+-- a word that stays makes no difference
+module _ (at n : ℕ) (f : ℕ → ℕ → ℕ) (l : List ℕ) (s : Stays at f l n) where
+  over-stays : at + n < length l → over at (suc n) f l ≡ over at n f l
+  over-stays h =
+      let more : set (over at n f l) (at + n) (f n (getD l (at + n) 0)) ≡ over at (suc n) f l = rw add-one at (over-more at n f l 0 h) in
+      let there : getD (over at n f l) (at + n) 0 ≡ getD l (at + n) 0 = getD-over-above at n f l (at + n) 0 (omega arith) in
+      sym more ∙ ap (set (over at n f l) (at + n)) (s ∙ sym there) ∙ set-getD (over at n f l) (at + n) 0
+
+  changes-stays : changes at (suc n) f l ≡ changes at n f l
+  unfolding changes
+  changes-stays = rw (eq-eqb _ _ s, or-false)
+
+-- nor do those from i up to j
+module _ (at : ℕ) (f : ℕ → ℕ → ℕ) (l : List ℕ) (i : ℕ) where
+  passed : (d : ℕ) → at + (i + d) ≤ length l → ((k : ℕ) → i ≤ k → k < i + d → Stays at f l k) → (over at (i + d) f l ≡ over at i f l) × (changes at (i + d) f l ≡ changes at i f l)
+  passed zero room s = rw add-zero (refl, refl)
+  passed (suc d) room s =
+      let r = passed d (omega arith) λ k a b. s k a (omega arith) in
+      let here : Stays at f l (i + d) = s (i + d) (omega arith) (omega arith) in
+      rw add-suc (over-stays at (i + d) f l here (omega arith) ∙ r .0, changes-stays at (i + d) f l here ∙ r .1)
+
+  pub pass : (j : ℕ) → i ≤ j → at + j ≤ length l → ((k : ℕ) → i ≤ k → k < j → Stays at f l k) → (over at j f l ≡ over at i f l) × (changes at j f l ≡ changes at i f l)
+  pass j h room s =
+      let e : i + (j - i) ≡ j = omega arith in
+      rw e at (passed (j - i) (omega arith) λ k a b. s k a (omega arith))
+
+-- a row that stays
+pub row-still : (at n : ℕ) (f : ℕ → ℕ → ℕ) (l : List ℕ) → at + n ≤ length l → ((k : ℕ) → k < n → Stays at f l k) → (l ≡ over at n f l) × (false ≡ changes at n f l)
+unfolding changes
+row-still at n f l h s = let p = pass at f l 0 n (omega arith) h λ k _ q. s k q in (sym (p .0 ∙ over-none at f l), sym (p .1))
+
+-- `changes` is exact: where it is false the list stays, and where the words stay it is false
 unchanged : (at n : ℕ) (f : ℕ → ℕ → ℕ) (l : List ℕ) → at + n ≤ length l → changes at n f l ≡ false → over at n f l ≡ l
 unfolding changes
 unchanged at zero f l h e = over-none at f l
 unchanged at (suc n) f l h e =
-    let same : f n (getD l (at + n) 0) ≡ getD l (at + n) 0 = eqb-true _ _ (not-false _ (or-right (changes at n f l) _ e)) in
-    let more : set (over at n f l) (at + n) (f n (getD l (at + n) 0)) ≡ over at (suc n) f l = rw add-one at (over-more at n f l 0 (omega arith)) in
-    sym more ∙ rw (same, unchanged at n f l (omega arith) (or-left (changes at n f l) _ e)) (set-getD l (at + n) 0)
+    over-stays at n f l (eqb-true _ _ (not-false _ (or-right (changes at n f l) _ e))) (omega arith)
+    ∙ unchanged at n f l (omega arith) (or-left (changes at n f l) _ e)
 
-still : (at n : ℕ) (f : ℕ → ℕ → ℕ) (l : List ℕ) → ((k : ℕ) → k < n → f k (getD l (at + k) 0) ≡ getD l (at + k) 0) → changes at n f l ≡ false
+still : (at n : ℕ) (f : ℕ → ℕ → ℕ) (l : List ℕ) → ((k : ℕ) → k < n → Stays at f l k) → changes at n f l ≡ false
 unfolding changes
 still at zero f l h = refl
-still at (suc n) f l h = rw (still at n f l (λ k q. h k (omega arith)), eq-eqb _ _ (h n (omega arith)))
+still at (suc n) f l h = changes-stays at n f l (h n (omega arith)) ∙ still at n f l (λ k q. h k (omega arith))
 
--- a test of each k below i, and of i
+-- what a test shows of each k below i, and of i
 pub all-step : (P : ℕ → Type 0) (i : ℕ) (x y : Bool) → (x ≡ true → (k : ℕ) → k < i → P k) → (y ≡ true → P i) → (x && y) ≡ true → (k : ℕ) → k < i + 1 → P k
 all-step P i x y hx hy e k h = by-equal k i (λ q. rw q (hy (and-right x y e))) λ d. hx (and-left x y e) k (omega arith)
-
--- a row that stays
-pub row-still : (at n : ℕ) (f : ℕ → ℕ → ℕ) (l : List ℕ) → at + n ≤ length l → ((k : ℕ) → k < n → f k (getD l (at + k) 0) ≡ getD l (at + k) 0)
-    → (l ≡ over at n f l) × (false ≡ changes at n f l)
-row-still at n f l h s = let e : changes at n f l ≡ false = still at n f l s in (sym (unchanged at n f l h e), sym e)
 
 same-word : (rule : Rule) (a b : ℕ) → cell-of (meet-word rule a b) ≡ cell-of a → meet-word rule a b ≡ a
 same-word rule a b e = go (eqb (meet-word rule a b) a) refl

@@ -38,6 +38,10 @@ unfoldable pub changes : ℕ → ℕ → (ℕ → ℕ → ℕ) → List ℕ → 
 changes at zero f l = false
 changes at (suc n) f l = changes at n f l || not (eqb (f n (getD l (at + n) 0)) (getD l (at + n) 0))
 
+-- does it leave the k-th as it is?
+abbrev pub Stays : ℕ → (ℕ → ℕ → ℕ) → List ℕ → ℕ → Type 0
+Stays at f l k = f k (getD l (at + k) 0) ≡ getD l (at + k) 0
+
 abbrev pub meet-at : Rule → List ℕ → ℕ → ℕ → ℕ
 meet-at rule row k w = meet-word rule w (getD row k 0)
 

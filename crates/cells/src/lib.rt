@@ -3,7 +3,8 @@
 ghost use mathlib.Core.Path.{_≡_};
 ghost use mathlib.Core.Bool.{true, false, cond};
 ghost use mathlib.Core.List.{List, [], _∷_, map};
-ghost use Prim.Native.Nat.{ℕ, _+_, _≤_, _<_};
+ghost use Prim.Native.Nat.{ℕ, _+_, _-_, _^_, _≤_, _<_};
+ghost use lib.Count.{trailingZeros};
 ghost use lib.ListN.{length, getD, take};
 ghost use Rattle.lists.specs.Over.{over};
 ghost use Rattle.lists.specs.Region.{region};
@@ -16,7 +17,7 @@ ghost use Rattle.paper.specs.Limits.{max-regs, max-slots};
 ghost use Rattle.layout.specs.Layout.{row-words, state-words};
 ghost use Rattle.cells.specs.Packed.{name-of-word, marked, cell-of};
 ghost use Rattle.cells.specs.Meeting.{rule-index, meet-table, meet-word};
-ghost use Rattle.cells.specs.States.{cells-of, state-of, stored-state, changes, meet-at, MetWith, Stored};
+ghost use Rattle.cells.specs.States.{Stays, cells-of, state-of, stored-state, changes, meet-at, MetWith, Stored};
 use layout::ROW_WORDS;
 use paper::Rule;
 
@@ -45,14 +46,11 @@ pub fn meet_table() -> [[[u8; 4]; 4]; 2]
     MEET
 }
 
-// The meet of two cells, by the table that is lent. Most cells that meet are equal, and stay.
+// The meet of two cells, by the table that is lent.
 fn meet(table: &[[[u8; 4]; 4]; 2], rule: Rule, a: u16, b: u16) -> u16
     requires { ⌜ now table ≡ meet-table ⌝ }
     ensures { λ r. ⌜ (r ≡ meet-word rule a b) × (cell-of r ≡ paper.meet rule (cell-of a) (cell-of b)) ⌝ }
 {
-    if a == b {
-        return a;
-    }
     let k = rule_index(rule);
     let left = (a / 1024 % 4) as usize;
     let right = (b / 1024 % 4) as usize;
@@ -220,10 +218,10 @@ fn stays(rule: Rule, a: u16, b: u16) -> bool
     }
 }
 
-// Is that plain of each word of the row that stands at `at`?
+// Is it plain of each word of the row that stands at `at`?
 fn row_stays(rule: Rule, words: &[u16], at: usize, row: &[u16; ROW_WORDS]) -> bool
     requires { ⌜ at + row-words ≤ length (now words) ⌝ }
-    ensures { λ r. ⌜ (r ≡ true → (k : ℕ) → k < row-words → meet-at rule (now (row .entry)) k (getD (now (words .entry)) (at + k) 0) ≡ getD (now (words .entry)) (at + k) 0) ⌝ }
+    ensures { λ r. ⌜ (r ≡ true → (k : ℕ) → k < row-words → Stays at (meet-at rule (now (row .entry))) (now (words .entry)) k) ⌝ }
 {
     let mut all = true;
     let mut i = 0;
@@ -235,7 +233,40 @@ fn row_stays(rule: Rule, words: &[u16], at: usize, row: &[u16; ROW_WORDS]) -> bo
     all
 }
 
-// A row met into the n words from `at` on: whether a word changed. Most rows stay, which is seen before the table is asked.
+// The mask of cell i, or of none where that stays.
+fn mask_unless(stays: bool, i: usize) -> u32
+    requires { ⌜ i < row-words ⌝ }
+    ensures { λ r. ⌜ r ≡ cond stays 0 (2 ^ i) ⌝ }
+{
+    if stays { 0 } else { 1 << i }
+}
+
+// The places in the row that stands at `at` whose words the meet may change, as a mask.
+fn may_change(rule: Rule, words: &[u16], at: usize, row: &[u16; ROW_WORDS]) -> u32
+    requires { ⌜ at + row-words ≤ length (now words) ⌝ }
+    ensures { λ r. ⌜ ((k : ℕ) → k < row-words → listed (set-bits r) k ≡ false → Stays at (meet-at rule (now (row .entry))) (now (words .entry)) k) ⌝ }
+{
+    let mut mask: u32 = 0;
+    let mut i = 0;
+    while i < ROW_WORDS {
+        let here = stays(rule, words[at + i], row[i]);
+        let bit = mask_unless(here, i);
+        mask = mask + bit;
+        i += 1;
+    }
+    mask
+}
+
+// A mask without its lowest set bit.
+pub fn without_lowest(mask: u32) -> u32
+    requires { ⌜ 0 < mask ⌝ }
+    ensures { λ r. ⌜ r ≡ mask - 2 ^ trailingZeros 32 mask ⌝ }
+{
+    mask & (mask - 1)
+}
+
+// A row met into the n words from `at` on: whether a word changed. Most rows stay, and of the others most words: the table is asked
+// for the words that may change, lowest first.
 fn meet_row(
     table: &[[[u8; 4]; 4]; 2],
     rule: Rule,
@@ -250,9 +281,13 @@ fn meet_row(
     if row_stays(rule, words, at, row) {
         return false;
     }
+    let mut left = may_change(rule, words, at, row);
     let mut changed = false;
-    let mut i = 0;
-    while i < n {
+    while 0 < left {
+        let i = u32::trailing_zeros(left) as usize;
+        if n <= i {
+            return changed;
+        }
         let j = at + i;
         let old = words[j];
         let new = meet(table, rule, old, row[i]);
@@ -260,7 +295,7 @@ fn meet_row(
         if new != old {
             changed = true;
         }
-        i += 1;
+        left = without_lowest(left);
     }
     changed
 }

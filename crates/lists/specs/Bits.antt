@@ -2,7 +2,7 @@
 use mathlib.Core.Path.{_≡_, refl, _∙_}
 use mathlib.Core.Bool.{Bool, true, false, cond}
 use mathlib.Core.List.{List, [], _∷_}
-use Prim.Native.Nat.{ℕ, zero, suc, _+_, _-_, _*_, _/_, _%_, _^_, _<_}
+use Prim.Native.Nat.{ℕ, zero, suc, _+_, _-_, _*_, _/_, _%_, _^_, _≤_, _<_}
 use native.Mathlib.Nat.{pow-suc, zero-add}
 use native.Mathlib.Omega.{arith}
 use lib.Dec.{eqb}
@@ -71,6 +71,31 @@ lowest (suc k) i n p h =
     let half : (n - 1) / 2 ≡ n / 2 = omega arith in
     let none : i + 0 ≡ i = omega arith in
     rw (odd k n e, bits-odd k i n e, bits-even k i (n - 1) (omega arith), half, none)
+
+-- the bits of a number stand where its first bit stands or above
+pub bits-above : (k i m j : ℕ) → j < i → All (λ n. j < n) (bits-from k i m)
+unfolding bits-from All
+bits-above zero i m j h = tt
+bits-above (suc k) i m j h = go (eqb (m % 2) 1) (bits-from k (i + 1) (m / 2)) (bits-above k (i + 1) (m / 2) j (omega arith))
+  where
+    go : (b : Bool) (rest : List ℕ) → All (λ n. j < n) rest → All (λ n. j < n) (cond b (i ∷ rest) rest)
+    go true rest a = (h, a)
+    go false rest a = a
+
+-- and all but the lowest above that
+pub above-lowest : (k i n j : ℕ) → 0 < n → n < 2 ^ k → j ≤ i + trailingZeros k n → All (λ b. j < b) (bits-from k i (n - 2 ^ trailingZeros k n))
+above-lowest zero i n j p h q = absurd (omega arith)
+above-lowest (suc k) i n j p h q =
+    last-bit n
+    (λ e.
+    let t = trailingZeros k (n / 2) in
+    let half : (n - 2 ^ t * 2) / 2 ≡ n / 2 - 2 ^ t = omega arith in
+    let q′ : j ≤ i + suc t = rw (even k n e) at q in
+    rw (even k n e, pow-suc, bits-even k i (n - 2 ^ t * 2) (omega arith), half)
+    (above-lowest k (i + 1) (n / 2) j (omega arith) (omega (arith, rw pow-suc at h)) (omega arith)))
+    λ e.
+    let q′ : j ≤ i + 0 = rw (odd k n e) at q in
+    rw (odd k n e, bits-even k i (n - 1) (omega arith)) (bits-above k (i + 1) ((n - 1) / 2) j (omega arith))
 
 -- `n & (n - 1)` takes the lowest set bit off
 pub cleared : (k n : ℕ) → 0 < n → n < 2 ^ k → bitAnd n (n - 1) ≡ n - 2 ^ trailingZeros k n

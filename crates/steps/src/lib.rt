@@ -2,8 +2,7 @@
 ghost use mathlib.Core.Path.{_≡_};
 ghost use mathlib.Core.Bool.{Bool};
 ghost use mathlib.Core.List.{List, [], _∷_};
-ghost use Prim.Native.Nat.{ℕ, _+_, _-_, _*_, _/_, _^_, _≤_, _<_};
-ghost use lib.Count.{trailingZeros};
+ghost use Prim.Native.Nat.{ℕ, _+_, _*_, _/_, _≤_, _<_};
 ghost use lib.ListN.{length, getD};
 ghost use Rattle.lists.specs.Kept.{Kept};
 ghost use Rattle.lists.specs.Region.{region};
@@ -332,14 +331,6 @@ fn check_uses(words: &[u16], at: usize, n: usize, row: &[u16; ROW_WORDS]) -> Che
     found
 }
 
-// The mask without its lowest set bit.
-fn without_lowest(mask: u32) -> u32
-    requires { ⌜ 0 < mask ⌝ }
-    ensures { λ r. ⌜ r ≡ mask - 2 ^ trailingZeros 32 mask ⌝ }
-{
-    mask & (mask - 1)
-}
-
 // The listed slots, lowest first: the first that fails.
 fn check_stackmap(row: &[u16; ROW_WORDS], mask: u32) -> CheckerError
     ensures { λ r. ⌜ r ≡ first-error (slot-in (now (row .entry))) (set-bits mask) ⌝ }
@@ -354,7 +345,7 @@ fn check_stackmap(row: &[u16; ROW_WORDS], mask: u32) -> CheckerError
         if is_error(error) {
             break 'search error;
         }
-        left = without_lowest(left);
+        left = cells::without_lowest(left);
     };
     found
 }

@@ -1,17 +1,16 @@
 -- `row_stays` meets its contract: before each turn `all` says it of the first i cells, and 32 - i falls.
 use mathlib.Core.Path.{_≡_}
 use mathlib.Core.Bool.{true}
-use Prim.Native.Nat.{ℕ, _+_, _-_, _≤_, _<_}
+use Prim.Native.Nat.{ℕ, _-_, _≤_, _<_}
 use native.Mathlib.Omega.{arith}
-use lib.ListN.{getD}
-use Rattle.cells.specs.States.{meet-at}
+use Rattle.cells.specs.States.{Stays, meet-at}
 use Rattle.cells.proofs.Rows.{all-step}
 use borrow.Author.Needs.{needs}
 use Rattle.cells.proofs.row_stays.Statement.{statement}
 use Rattle.cells.proofs.row_stays.Tie as tie
 
 abbrev Inv-loop : tie.InvT-loop
-Inv-loop rule words at row all₀ i₀ all i = (i ≤ 32) × (all ≡ true → (k : ℕ) → k < i → meet-at rule row k (getD words (at + k) 0) ≡ getD words (at + k) 0)
+Inv-loop rule words at row all₀ i₀ all i = (i ≤ 32) × (all ≡ true → (k : ℕ) → k < i → Stays at (meet-at rule row) words k)
 
 abbrev μ-loop : tie.MeasureT-loop
 μ-loop rule words at row all₀ i₀ all i = 32 - i

@@ -4,12 +4,12 @@ use mathlib.Core.Path.{sym}
 use mathlib.Core.Bool.{true≢false}
 use borrow.Author.Tests.{eqb-true}
 use borrow.Author.Needs.{needs}
-use Rattle.cells.proofs.Laws.{met-itself, old-conflicted-stays, old-absent-comes, house-unknown-stays}
+use Rattle.cells.proofs.Laws.{same-stays, old-conflicted-stays, old-absent-comes, house-unknown-stays}
 use Rattle.cells.proofs.stays.Statement.{statement}
 use Rattle.cells.proofs.stays.Tie as tie
 
 returns : tie.Need-returns
-returns c e = sym (met-itself _ _ _ (c .if1 .taken) .0)
+returns c e = same-stays _ _ _ (c .if1 .taken)
 
 enum-told : tie.Need-enum-told
 enum-told c = search needs

@@ -1,8 +1,8 @@
 -- `without_lowest` meets its contract: a mask and the mask less 1 share the set bits of the mask but for the lowest (`cleared`).
 use borrow.Author.Needs.{needs}
 use Rattle.lists.specs.Bits.{cleared}
-use Rattle.steps.proofs.without_lowest.Statement.{statement}
-use Rattle.steps.proofs.without_lowest.Tie as tie
+use Rattle.cells.proofs.without_lowest.Statement.{statement}
+use Rattle.cells.proofs.without_lowest.Tie as tie
 
 sub-result : tie.Need-sub-result
 sub-result c = search needs
