@@ -4,35 +4,39 @@ use mathlib.Core.List.{List, [], _∷_}
 use Prim.Native.Nat.{ℕ, suc, _+_, _≤_, _<_}
 use native.Mathlib.Numerals.{add-one}
 use native.Mathlib.Omega.{arith}
-use lib.ListN.{length, getD}
+use lib.ListN.{length, getD, replicate}
 use Rattle.lists.specs.Kept.{kept-same, kept-then}
 use Rattle.paper.specs.Sheet.{Sheet}
 use Rattle.paper.specs.Steps.{State}
 use Rattle.paper.specs.Runs.{Run, step, run, flow, begin, visit-bound, analysis, entered, checked-from}
 use Rattle.paper.specs.Report.{missing-allocations}
-use Rattle.paper.specs.Limits.{queue-size}
+use Rattle.paper.specs.Limits.{max-blocks, queue-size}
 use Rattle.paper.specs.declared.Rule.{Rule}
 use Rattle.layout.specs.Layout.{blocks-word}
 use Rattle.walks.specs.Running.{run-suc}
+use Rattle.walks.specs.Passing.{PassedOn}
 use Rattle.walks.specs.Loop.{Standing, standing-room, standing-step, standing-begin, stopped-early}
 use Rattle.sheet.specs.Loaded.{sheet-of, Loaded}
 use Rattle.runs.specs.Held.{RunKept, held-state}
 use Rattle.runs.specs.Queue.{held, held-from}
 use Rattle.runs.specs.Table.{mark-of, Tabled}
 use Rattle.runs.specs.Allowed.{loaded-closed}
-use Rattle.runs.specs.Stands.{Begins, Running, Continues, Moved, Analysed}
+use Rattle.runs.specs.Stands.{Begins, Running, Continues, Analysed}
+use Rattle.runs.specs.Settled.{Settled, Visited}
 use Rattle.runs.specs.declared.Ring.{Ring}
+use Rattle.runs.proofs.LawsSettled.{none-settled}
 use Rattle.runs.proofs.LawsQueue.{length-held, none-held}
 use Rattle.runs.proofs.LawsVisit.{bound-fits}
 
 -- the loop over the queue, after so many visits
-pub record Going (rule : Rule) (words₀ queue₀ words queue : List ℕ) (ring : Ring) (visits : ℕ) : Type 0 where
+pub record Going (rule : Rule) (words₀ queue₀ words queue : List ℕ) (ring : Ring) (settled : List ℕ) (visits : ℕ) : Type 0 where
   pub kept : RunKept words₀ words
   pub same-length : length queue ≡ length queue₀
   pub running : Running rule (sheet-of words₀) words queue ring visits (run (flow rule (sheet-of words₀)) visits (begin rule (sheet-of words₀)))
+  pub passed : PassedOn (flow rule (sheet-of words₀)) (Settled settled) ((run (flow rule (sheet-of words₀)) visits (begin rule (sheet-of words₀))) .table)
 
 pub going-begins : {rule : Rule} {words queue words′ queue′ : List ℕ} {ring : Ring} → Loaded words → missing-allocations (sheet-of words) ≡ [] → Begins rule words queue words′ queue′ ring
-    → Going rule words′ queue′ words′ queue′ ring 0
+    → Going rule words′ queue′ words′ queue′ ring (replicate max-blocks 0) 0
 unfolding run
 going-begins {rule} {words} {words′ = words′} {queue′ = queue′} {ring = ring} loaded all b = record {
   kept = kept-same _ _ _;
@@ -43,9 +47,10 @@ going-begins {rule} {words} {words′ = words′} {queue′ = queue′} {ring = 
     standing = standing-begin rule (sheet-of words) (loaded-closed loaded);
     stands = b .stands;
   });
+  passed = none-settled max-blocks _ _;
 }
 
-module _ {rule : Rule} {words₀ queue₀ words queue : List ℕ} {ring : Ring} {visits : ℕ} (g : Going rule words₀ queue₀ words queue ring visits) where
+module _ {rule : Rule} {words₀ queue₀ words queue : List ℕ} {ring : Ring} {settled : List ℕ} {visits : ℕ} (g : Going rule words₀ queue₀ words queue ring settled visits) where
   pub going-continues : Continues rule words queue ring
   going-continues = record { sheet = _; visits = visits; at = _; running = g .running }
 
@@ -58,7 +63,7 @@ module _ {rule : Rule} {words₀ queue₀ words queue : List ℕ} {ring : Ring} 
   pub going-small : 0 < ring .count → visits < queue-size
   going-small h = omega (arith, going-left h, bound-fits rule (g .running .stands .tables .sheet))
 
-  pub going-more : {words′ queue′ : List ℕ} {ring′ : Ring} → 0 < ring .count → Moved rule words queue ring words′ queue′ ring′ (λ S. step (flow rule S)) → Going rule words₀ queue₀ words′ queue′ ring′ (visits + 1)
+  pub going-more : {words′ queue′ : List ℕ} {ring′ : Ring} {settled′ : List ℕ} → 0 < ring .count → Visited rule words queue ring settled words′ queue′ ring′ settled′ → Going rule words₀ queue₀ words′ queue′ ring′ settled′ (visits + 1)
   going-more {words′} {queue′} {ring′} h m = record {
     kept = kept-then _ _ (g .kept) (m .kept) (omega arith) (omega arith) (omega arith) (omega arith);
     same-length = m .same-length ∙ g .same-length;
@@ -66,8 +71,9 @@ module _ {rule : Rule} {words₀ queue₀ words queue : List ℕ} {ring : Ring} 
       closed = g .running .closed;
       allocated = g .running .allocated;
       standing = rw (add-one, run-suc (flow rule (sheet-of words₀)) visits (begin rule (sheet-of words₀))) (waits (held queue ring) (length-held queue (ring .head) (ring .count)) (g .running .stands .waiting));
-      stands = rw (add-one, run-suc (flow rule (sheet-of words₀)) visits (begin rule (sheet-of words₀))) (m .stands _ _ (g .running .stands));
+      stands = rw (add-one, run-suc (flow rule (sheet-of words₀)) visits (begin rule (sheet-of words₀))) (m .stands _ _ (g .running .stands) (g .passed));
     };
+    passed = rw (add-one, run-suc (flow rule (sheet-of words₀)) visits (begin rule (sheet-of words₀))) (m .passed _ _ (g .running .stands) (g .passed));
   }
     where
       waits : (l : List ℕ) → length l ≡ ring .count → l ≡ (run (flow rule (sheet-of words₀)) visits (begin rule (sheet-of words₀))) .queue

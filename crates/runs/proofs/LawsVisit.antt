@@ -6,9 +6,10 @@ use mathlib.Core.Option.{some}
 use Prim.Native.Nat.{ℕ, _+_, _*_, _-_, _≤_, _<_}
 use native.Mathlib.Nat.{mul-le-mul-right}
 use native.Mathlib.Omega.{arith}
-use lib.ListN.{length, getD}
+use lib.ListN.{length, getD, set}
 use Rattle.lists.specs.Region.{region}
 use Rattle.lists.specs.Grown.{region-more, region-joined}
+use Rattle.lists.specs.Regions.{region-cons, region-none}
 use Rattle.lists.specs.Kept.{kept-same, kept-then}
 use Rattle.paper.specs.Sheet.{Sheet, succs-of}
 use Rattle.paper.specs.Steps.{State}
@@ -19,6 +20,7 @@ use Rattle.paper.specs.Walks.{In, here}
 use Rattle.paper.specs.declared.Rule.{Rule}
 use Rattle.paper.specs.declared.Rule.the-variants.{Old, House}
 use Rattle.layout.specs.Layout.{blocks-word, opened-word, succ-base, state-base, all-words, mark-at}
+use Rattle.walks.specs.Passing.{PassedOn, Passing, passing-done, spread-covered}
 use Rattle.walks.specs.Running.{step-visit, spread-last}
 use Rattle.walks.specs.Loop.{standing-room, standing-below, standing-visited, standing-inside}
 use Rattle.cells.specs.States.{state-of}
@@ -26,10 +28,12 @@ use Rattle.sheet.specs.Loaded.{succ-total, sheet-of, BlockBounds}
 use Rattle.sheet.specs.Blocks.{succs-in-words}
 use Rattle.runs.specs.Held.{counts-of, held-state}
 use Rattle.runs.specs.Queue.{held, Sound, Taken}
-use Rattle.runs.specs.Table.{Ready, Holds, mark-of, Through}
+use Rattle.runs.specs.Table.{Ready, Holds, mark-of, arrives, Through}
 use Rattle.runs.specs.Stands.{Stands, Continues, Moved}
 use Rattle.runs.specs.declared.Ring.{Ring}
+use Rattle.runs.specs.Settled.{Settled, unsettled, Unsettled, Visited}
 use Rattle.runs.proofs.LawsQueue.{length-held}
+use Rattle.runs.proofs.LawsSettled.{push-passing, passing-first}
 use Rattle.runs.proofs.LawsTable.{marked, blocks-are, few-blocks, narrow, ready-stays}
 
 -- inside a visit, whose block has its successors from `from` on: the first i have been served
@@ -54,6 +58,39 @@ serving-more {rule} {words₀} {s = s} {from = from} {i = i} g l low fits m = re
         rw (region-more from i words₀ (omega arith), spread-last (flow rule S) (region from i words₀) (getD words₀ (from + i) 0) (state-of (counts-of S) s) r, ← g .moved .kept .below (from + i) (omega arith))
         (m .stands S _ (g .moved .stands S r h));
   };
+}
+
+-- and the settled blocks have passed their states on, or have the result to pass on to successors that are not served yet
+pub record Settling (rule : Rule) (words₀ queue₀ : List ℕ) (ring₀ : Ring) (s : List (List ℕ)) (from total : ℕ) (settled₀ settled : List ℕ) (i : ℕ) : Type 0 where
+  pub passing : (S : Sheet) (r : Run State) → Stands rule S words₀ queue₀ ring₀ r
+      → Passing (flow rule S) (Settled settled₀) (state-of (counts-of S) s) (region from total words₀) (r .table)
+      → Passing (flow rule S) (Settled settled) (state-of (counts-of S) s) (region (from + i) (total - i) words₀)
+      ((spread (flow rule S) (region from i words₀) (state-of (counts-of S) s) r) .table)
+
+pub settling-none : {rule : Rule} {words queue : List ℕ} {ring : Ring} {s : List (List ℕ)} {from total : ℕ} {settled : List ℕ} → Settling rule words queue ring s from total settled settled 0
+unfolding spread region
+settling-none {from = from} {total = total} = record {
+  passing = λ S r h p.
+      let a : from + 0 ≡ from = omega arith in
+      let b : total - 0 ≡ total = omega arith in
+      rw (a, b) p;
+}
+
+pub settling-more : {rule : Rule} {words₀ queue₀ : List ℕ} {ring₀ : Ring} {s : List (List ℕ)} {from total : ℕ} {settled₀ settled : List ℕ} {words queue : List ℕ} {ring : Ring} {i : ℕ} {settled′ : List ℕ}
+    → Serving rule words₀ queue₀ ring₀ s from total words queue ring i → Settling rule words₀ queue₀ ring₀ s from total settled₀ settled i → i < total → from + total ≤ state-base → from + total ≤ length words₀
+    → Unsettled rule words queue ring (getD words (from + i) 0) s settled settled′
+    → Settling rule words₀ queue₀ ring₀ s from total settled₀ settled′ (i + 1)
+settling-more {rule} {words₀} {s = s} {from = from} {total = total} {settled = settled} {i = i} {settled′ = settled′} g m l low fits u = record {
+  passing = λ S r h p.
+      let x = state-of (counts-of S) s in
+      let b : ℕ = getD words₀ (from + i) 0 in
+      let at : Run State = spread (flow rule S) (region from i words₀) x r in
+      let cut : region (from + i) (total - i) words₀ ≡ b ∷ region (from + i + 1) (total - i - 1) words₀ = region-cons (from + i) (total - i) words₀ (omega arith) (omega arith) in
+      let next : from + i + 1 ≡ from + (i + 1) = omega arith in
+      let fewer : total - i - 1 ≡ total - (i + 1) = omega arith in
+      let q : Passing (flow rule S) (Settled settled) x (b ∷ region (from + (i + 1)) (total - (i + 1)) words₀) (at .table) = rw (cut, next, fewer) at (m .passing S r h p) in
+      let bytes : settled′ ≡ unsettled (arrives rule (at .table b) x) b settled = rw (g .moved .kept .below (from + i) (omega arith)) at (u .is S at (g .moved .stands S r h)) in
+      rw (region-more from i words₀ (omega arith), spread-last (flow rule S) (region from i words₀) b x r, bytes) (push-passing rule S b x _ settled at q);
 }
 
 -- the visit bound of a loaded sheet fits the queue
@@ -126,6 +163,21 @@ module _ {rule : Rule} {words queue : List ℕ} {ring ring₁ : Ring} (c : Conti
       let L = c .running .stands .tables .sheet .ready .loaded .bounds in
       record { small = omega (arith, first-below, L .blocks); succs = first-bounds .succs; size = L .size }
 
+  -- it is settled: the visit changes nothing but the queue
+  pub visited-settled : (settled : List ℕ) → Settled settled (getD queue (ring .head) 0) → Visited rule words queue ring settled words queue ring₁ settled
+  visited-settled settled q = record {
+    kept = kept-same _ _ _;
+    same-length = refl;
+    stands = λ S r h k. rw (still S r h k) (rest-stands S r h);
+    passed = λ S r h k. rw (still S r h k) k;
+  }
+    where
+      still : (S : Sheet) (r : Run State) → Stands rule S words queue ring r → PassedOn (flow rule S) (Settled settled) (r .table)
+          → step (flow rule S) r ≡ record { table = r .table; queue = held queue ring₁ }
+      still S r h k =
+          step-visit (flow rule S) r (first-of queue ring) (held queue ring₁) _ (sym (h .waiting) ∙ taken .holds) (first-state S r h)
+          ∙ spread-covered (flow rule S) _ _ _ (λ s i. k .closed (first-of queue ring) _ (first-state S r h) q s i)
+
   module _ {s : List (List ℕ)} {words′ queue′ : List ℕ} {ring′ : Ring} {i : ℕ} (through : Through rule (first-of queue ring) words s)
       (g : Serving rule words queue ring₁ s (succ-base (first-of queue ring)) (succ-total words (first-of queue ring)) words′ queue′ ring′ i) where
     serving-stands : Stands rule (c .sheet) words′ queue′ ring′ (spread (flow rule (c .sheet)) (region (succ-base (first-of queue ring)) i words) (state-of (counts-of (c .sheet)) s) (record { table = (c .at) .table; queue = held queue ring₁ }))
@@ -164,3 +216,24 @@ module _ {rule : Rule} {words queue : List ℕ} {ring ring₁ : Ring} (c : Conti
             let all : i ≡ succ-total words (first-of queue ring) = omega (arith, g .past) in
             rw (step-visit (flow rule S) r (first-of queue ring) (held queue ring₁) _ (sym (h .waiting) ∙ taken .holds) (first-state S r h), ← through .is S (h .tables .sheet), first-succs S (h .tables .sheet), ← all)
             (g .moved .stands S _ (rest-stands S r h))
+
+    pub visited-run : {settled settled′ : List ℕ} → Settling rule words queue ring₁ s (succ-base (first-of queue ring)) (succ-total words (first-of queue ring)) (set settled (first-of queue ring) 1) settled′ i
+        → succ-total words (getD queue (ring .head) 0) ≤ i → Visited rule words queue ring settled words′ queue′ ring′ settled′
+    unfolding flow
+    visited-run {settled} {settled′} m l =
+        let v = moved-visit l in
+        record { kept = v .kept; same-length = v .same-length; stands = λ S r h k. v .stands S r h; passed = passed }
+      where
+        passed : (S : Sheet) (r : Run State) → Stands rule S words queue ring r → PassedOn (flow rule S) (Settled settled) (r .table)
+            → PassedOn (flow rule S) (Settled settled′) ((step (flow rule S) r) .table)
+        passed S r h k =
+            let b = first-of queue ring in
+            let x = state-of (counts-of S) s in
+            let rest : Run State = record { table = r .table; queue = held queue ring₁ } in
+            let all : i ≡ succ-total words b = omega (arith, g .past) in
+            let none : succ-total words b - i ≡ 0 = omega arith in
+            let begun : Passing (flow rule S) (Settled (set settled b 1)) x (region (succ-base b) (succ-total words b) words) (r .table) =
+            rw (through .is S (h .tables .sheet), ← first-succs S (h .tables .sheet)) (passing-first rule S b _ settled (r .table) (first-state S r h) k) in
+            let ended : PassedOn (flow rule S) (Settled settled′) ((spread (flow rule S) (region (succ-base b) i words) x rest) .table) =
+            passing-done (flow rule S) _ x (rw (none, region-none) at (m .passing S rest (rest-stands S r h) begun)) in
+            rw (step-visit (flow rule S) r b (held queue ring₁) _ (sym (h .waiting) ∙ taken .holds) (first-state S r h), ← through .is S (h .tables .sheet), first-succs S (h .tables .sheet), ← all) ended

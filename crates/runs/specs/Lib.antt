@@ -4,3 +4,4 @@ pub mod Table
 pub mod Sheets
 pub mod Allowed
 pub mod Stands
+pub mod Settled

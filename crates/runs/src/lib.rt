@@ -15,12 +15,14 @@ ghost use Rattle.runs.specs.Held.{RunKept, counts-of};
 ghost use Rattle.runs.specs.Queue.{place, Sound, Appended, Taken};
 ghost use Rattle.runs.specs.Table.{Ready, mark-of, Tables, Came, Entered, Through};
 ghost use Rattle.runs.specs.Stands.{Begins, Continues, Moved, Analysed};
+ghost use Rattle.runs.specs.Settled.{Unsettled, Visited};
 use cells::State;
 use layout::BLOCK_BASE;
 use layout::BLOCK_WORDS;
 use layout::BLOCKS_WORD;
 use layout::ENTRY_WORD;
 use layout::MARK_BASE;
+use layout::MAX_BLOCKS;
 use layout::QUEUE_SIZE;
 use layout::REGS_WORD;
 use layout::SLOTS_WORD;
@@ -150,20 +152,22 @@ fn join(table: &[[[u8; 4]; 4]; 2], rule: Rule, words: &mut [u16], b: usize, s: S
     )
 }
 
-// A state comes to block b, which waits where that is new.
+// A state comes to block b, which waits and is settled no more where that is new.
 fn push(
     table: &[[[u8; 4]; 4]; 2],
     rule: Rule,
     words: &mut [u16],
     queue: &mut [u8],
+    settled: &mut [u8; MAX_BLOCKS],
     ring: Ring,
     b: usize,
     s: State,
 ) -> Ring
     requires { ⌜ (now table ≡ meet-table) × Ready (now words) × (b < getD (now words) blocks-word 0) × Sound (now queue) ring × (ring .count < queue-size) ⌝ }
-    ensures { λ r. ⌜ Moved rule (now (words .entry)) (now (queue .entry)) ring (now (words .exit)) (now (queue .exit)) r (λ S. paper-runs.push (paper-runs.flow rule S) b (state-of (counts-of S) s)) ⌝ }
+    ensures { λ r. ⌜ Moved rule (now (words .entry)) (now (queue .entry)) ring (now (words .exit)) (now (queue .exit)) r (λ S. paper-runs.push (paper-runs.flow rule S) b (state-of (counts-of S) s)) × Unsettled rule (now (words .entry)) (now (queue .entry)) ring b s (now (settled .entry)) (now (settled .exit)) ⌝ }
 {
     if join(table, rule, words, b, s) {
+        settled[b] = 0;
         append(queue, ring, b as u8)
     } else {
         ring
@@ -184,27 +188,33 @@ fn through(rule: Rule, words: &[u16], b: usize) -> State
     steps::effects(words, rule, s, regs, slots, first, count)
 }
 
-// One visit: the block at the head is taken, its steps are run, and each successor in listed order gets the result.
+// One visit: the block at the head is taken, its steps are run, and each successor in listed order gets the result. A settled block
+// has the state of its last visit and its successors have the result, so there is nothing to do.
 fn visit(
     table: &[[[u8; 4]; 4]; 2],
     rule: Rule,
     words: &mut [u16],
     queue: &mut [u8],
+    settled: &mut [u8; MAX_BLOCKS],
     ring: Ring,
 ) -> Ring
     requires { ⌜ (now table ≡ meet-table) × Continues rule (now words) (now queue) ring × (0 < ring .count) ⌝ }
-    ensures { λ r. ⌜ Moved rule (now (words .entry)) (now (queue .entry)) ring (now (words .exit)) (now (queue .exit)) r (λ S. paper-runs.step (paper-runs.flow rule S)) ⌝ }
+    ensures { λ r. ⌜ Visited rule (now (words .entry)) (now (queue .entry)) ring (now (settled .entry)) (now (words .exit)) (now (queue .exit)) r (now (settled .exit)) ⌝ }
 {
     let head = ring.head;
     let b = queue[head] as usize;
     let mut waiting = take(ring);
+    if settled[b] == 1 {
+        return waiting;
+    }
+    settled[b] = 1;
     let result = through(rule, words, b);
     let at = BLOCK_BASE + b * BLOCK_WORDS;
     let total = words[at + SUCC_TOTAL_WORD] as usize;
     let mut i = 0;
     while i < total {
         let s = words[at + SUCCS_FROM + i] as usize;
-        let next = push(table, rule, words, queue, waiting, s, result);
+        let next = push(table, rule, words, queue, settled, waiting, s, result);
         waiting = next;
         i += 1;
     }
@@ -218,9 +228,10 @@ pub fn analyze(rule: Rule, words: &mut [u16], queue: &mut [u8])
 {
     let table = cells::meet_table();
     let mut ring = begin(rule, words, queue);
+    let mut settled = [0u8; MAX_BLOCKS];
     let mut visits: usize = 0;
     while 0 < ring.count {
-        let next = visit(&table, rule, words, queue, ring);
+        let next = visit(&table, rule, words, queue, &mut settled, ring);
         ring = next;
         visits += 1;
     }

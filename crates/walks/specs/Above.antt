@@ -12,7 +12,7 @@ use Rattle.paper.specs.Steps.{State, Location, slot, get, location-of, check, e
 use Rattle.paper.specs.Runs.{meet-states}
 use Rattle.paper.specs.Walks.{In, here, there, Passes, SameNames, Alike}
 use Rattle.paper.specs.declared.Rule.the-variants.{House}
-use Rattle.walks.specs.Meet.{house-names, names-meet, absent-left}
+use Rattle.walks.specs.Meet.{same-names, names-meet, absent-left}
 use Rattle.walks.specs.Effects.{states-comm, get-meet, effect-distributes}
 use Rattle.walks.specs.Checks.{Holds, Marked, uses-hold, hold-uses, slots-marked, marked-slots, change-holds, holds-change}
 use Rattle.walks.specs.Holding.{absent-named, unknown-named, conflicted-named}
@@ -35,17 +35,17 @@ right-named (named j i) absent n m e = absent-named e
 right-named (named j i) unknown n m e = unknown-named e
 right-named (named j i) conflicted n m e = conflicted-named e
 right-named (named j i) (named k l) n m e =
-    names-meet j k i l (λ c. c ≡ named n m → Holds n (named k l)) (λ p f. record { mark = l; is = cc }) (λ p f. conflicted-named f) e
+    names-meet House j k i l (λ c. c ≡ named n m → Holds n (named k l)) (λ p f. record { mark = l; is = cc }) (λ p f. conflicted-named f) e
 
 pub meet-right : (s t : State) (l : Location) (n : Name) → Holds n (get (meet-states House s t) l) → Holds n (get t l)
 meet-right s t l n h = right-named (get s l) (get t l) n (h .mark) (sym (get-meet s t l) ∙ h .is)
 
 pub meet-left : (s t : State) (l : Location) (n : Name) → Holds n (get (meet-states House s t) l) → Holds n (get s l)
-meet-left s t l n h = meet-right t s l n (subst (λ (u : State). Holds n (get u l)) (states-comm s t) h)
+meet-left s t l n h = meet-right t s l n (subst (λ (u : State). Holds n (get u l)) (states-comm House s t) h)
 
 -- and a name that stands on both sides stands in the meet
 pub meet-both : (s t : State) (l : Location) (n : Name) → Holds n (get s l) → Holds n (get t l) → Holds n (get (meet-states House s t) l)
-meet-both s t l n h g = record { mark = h .mark || g .mark; is = cc (get-meet s t l, h .is, g .is, house-names n (h .mark) (g .mark)) }
+meet-both s t l n h g = record { mark = h .mark || g .mark; is = cc (get-meet s t l, h .is, g .is, same-names House n (h .mark) (g .mark)) }
 
 -- s is at or below t
 abbrev pub Under : State → State → Type 0

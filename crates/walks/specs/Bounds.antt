@@ -103,7 +103,7 @@ old-falls (named n false) conflicted h = omega arith
 old-falls (named n m) (named k l) h = names-fall Old n k m l h
 
 present-meet : (x y : Cell) → Present x → Present y → Present (meet House x y)
-present-meet = meet-keeps Present (λ n k m l p q. names-meet n k m l Present (λ e. tt) (λ e. tt))
+present-meet = meet-keeps Present (λ n k m l p q. names-meet House n k m l Present (λ e. tt) (λ e. tt))
 
 graded-cells : (rule : Rule) → Graded (meet rule) (λ (u : Unit {0}). Occurs rule) (height rule) (λ u. top rule)
 unfolding meet

@@ -1,4 +1,4 @@
--- The house meet of states, and every house effect, a block's too, distributes over it. States are lists of rows: each law is the
+-- Each rule's meet of states; every house effect, a block's too, distributes over the house meet. States are lists of rows: each law is the
 -- law of rows twice.
 use mathlib.Core.Path.{_≡_, refl, sym, _∙_, ap}
 use mathlib.Core.Bool.{Bool}
@@ -10,22 +10,29 @@ use Rattle.paper.specs.Sheet.{Operand, Step, spill, reload, move, change, opera
 use Rattle.paper.specs.Cells.{Cell, absent, named, meet, copied, overwritten, house-changed, collected}
 use Rattle.paper.specs.Steps.{State, Location, register, slot, nowhere, cell-at, store-at, get, put, location-of, copy, everywhere, safepoint-row, house-define, house-effect, effect, effects}
 use Rattle.paper.specs.Runs.{both, meet-states, flow}
+use Rattle.paper.specs.declared.Rule.{Rule}
 use Rattle.paper.specs.declared.Rule.the-variants.{House}
 use Rattle.walks.specs.Rows.{both-idem, both-comm, both-assoc, both-none, Spreads, both-map, both-placed, both-set, both-getD}
-use Rattle.walks.specs.Meet.{house-idem, house-comm, house-assoc, absent-left, absent-right, copied-spreads, overwritten-spreads, changed-spreads, collected-spreads, listed-spreads}
+use Rattle.walks.specs.Meet.{house-idem, cell-idem, cell-comm, cell-assoc, absent-left, absent-right, copied-spreads, overwritten-spreads, changed-spreads, collected-spreads, listed-spreads}
+use Rattle.walks.specs.Passing.{Semilattice}
 use Rattle.walks.specs.Flow.{Laws}
 
-pub states-idem : (s : State) → meet-states House s s ≡ s
-unfolding meet-states
-states-idem = both-idem (both (meet House)) (both-idem (meet House) house-idem)
+module _ (rule : Rule) where
+  pub states-idem : (s : State) → meet-states rule s s ≡ s
+  unfolding meet-states
+  states-idem = both-idem (both (meet rule)) (both-idem (meet rule) (cell-idem rule))
 
-pub states-comm : (s t : State) → meet-states House s t ≡ meet-states House t s
-unfolding meet-states
-states-comm = both-comm (both (meet House)) (both-comm (meet House) house-comm)
+  pub states-comm : (s t : State) → meet-states rule s t ≡ meet-states rule t s
+  unfolding meet-states
+  states-comm = both-comm (both (meet rule)) (both-comm (meet rule) (cell-comm rule))
 
-pub states-assoc : (s t u : State) → meet-states House (meet-states House s t) u ≡ meet-states House s (meet-states House t u)
-unfolding meet-states
-states-assoc = both-assoc (both (meet House)) (both-assoc (meet House) house-assoc)
+  pub states-assoc : (s t u : State) → meet-states rule (meet-states rule s t) u ≡ meet-states rule s (meet-states rule t u)
+  unfolding meet-states
+  states-assoc = both-assoc (both (meet rule)) (both-assoc (meet rule) (cell-assoc rule))
+
+  pub meet-laws : (S : Sheet) → Semilattice (flow rule S)
+  unfolding flow
+  meet-laws S = record { assoc = states-assoc; comm = states-comm; idem = states-idem }
 
 row-at : (s t : State) (r : ℕ) → getD (meet-states House s t) r [] ≡ both (meet House) (getD s r []) (getD t r [])
 unfolding meet-states both
@@ -102,8 +109,6 @@ module _ (ref : Name → Bool) where
 pub house-laws : (S : Sheet) → Laws (flow House S)
 unfolding flow
 house-laws S = record {
-  assoc = states-assoc;
-  comm = states-comm;
-  idem = states-idem;
+  meets = meet-laws House S;
   distributes = λ b. effects-distribute (reference-typed S) (steps-of S b);
 }

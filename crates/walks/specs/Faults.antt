@@ -18,7 +18,7 @@ use Rattle.paper.specs.Walks.{In, here, there, along, HouseWalk, SameNames}
 use Rattle.paper.specs.declared.Rule.the-variants.{House}
 use Rattle.lists.specs.Split.{or-left}
 use Rattle.walks.specs.Choices.{some-not-none, in-nil, in-append}
-use Rattle.walks.specs.Meet.{house-names}
+use Rattle.walks.specs.Meet.{same-names}
 use Rattle.walks.specs.Effects.{get-meet}
 use Rattle.walks.specs.Checks.{slots-marked}
 use Rattle.walks.specs.Above.{meet-left, meet-right}
@@ -52,7 +52,7 @@ unmarked-left : (s t : State) (l : Location) (n : Name) → get (meet-states Hou
 unmarked-left s t l n e =
     let h = meet-left s t l n (record { mark = false; is = e }) in
     let g = meet-right s t l n (record { mark = false; is = e }) in
-    let m : named n (h .mark || g .mark) ≡ named n false = cc (get-meet s t l, h .is, g .is, house-names n (h .mark) (g .mark)) in
+    let m : named n (h .mark || g .mark) ≡ named n false = cc (get-meet s t l, h .is, g .is, same-names House n (h .mark) (g .mark)) in
     h .is ∙ ap (named n) (or-left (h .mark) (g .mark) (named-mark n m))
   where
     named-mark : (n : Name) {a b : Bool} → named n a ≡ named n b → a ≡ b

@@ -3,7 +3,7 @@
 -- state on. At an empty queue that is the greatest state at or below every walk's.
 use mathlib.Core.Path.{_≡_, refl, sym, _∙_, ap, subst}
 use mathlib.Core.Logic.{_⊎_, inl, inr}
-use mathlib.Core.List.{List, [], _∷_, _++_}
+use mathlib.Core.List.{List, [], _∷_}
 use mathlib.Core.Option.{Option, none, some}
 use Prim.Native.Nat.{ℕ}
 use native.Mathlib.Decide.{ℕ-discrete}
@@ -11,12 +11,11 @@ use Rattle.paper.specs.Cells.{pick}
 use Rattle.paper.specs.Runs.{Flow, Run, update, store, push-at, push, spread}
 use Rattle.paper.specs.Walks.{In, here, there, Walk, start, then, along, Below, MeetOverWalks}
 use Rattle.walks.specs.Choices.{some-not-none, some-inj, in-nil, in-left, in-right, update-same, update-other}
+use Rattle.walks.specs.Passing.{Semilattice, Covered, PassedOn, Passing, below-trans, below-left, below-right, covered-update, store-passing, skip-passing, visit-passing, passing-done}
 
 -- what the meet and the blocks' effects have to obey
 pub record Laws {A : Type 0} (F : Flow A) : Type 0 where
-  pub assoc : (x y z : A) → F .meet (F .meet x y) z ≡ F .meet x (F .meet y z)
-  pub comm : (x y : A) → F .meet x y ≡ F .meet y x
-  pub idem : (x : A) → F .meet x x ≡ x
+  pub meets : Semilattice F
   pub distributes : (b : ℕ) (x y : A) → F .through b (F .meet x y) ≡ F .meet (F .through b x) (F .through b y)
 
 -- a state made from walks' states by finitely many meets
@@ -24,43 +23,27 @@ pub data Meets {A : Type 0} (F : Flow A) (b : ℕ) : A → Type 0 where
   one : {a : A} (w : Walk F b) → along F w ≡ a → Meets F b a
   two : {x y a : A} → Meets F b x → Meets F b y → F .meet x y ≡ a → Meets F b a
 
--- block s has a state, and it is at or below x
-pub record Covered {A : Type 0} (F : Flow A) (table : ℕ → Option A) (s : ℕ) (x : A) : Type 0 where
-  pub state : A
-  pub holds : table s ≡ some state
-  pub under : Below F state x
-
 pub record Good {A : Type 0} (F : Flow A) (r : Run A) : Type 0 where
   pub rooted : Covered F (r .table) (F .entry) (F .first)
   pub met : (b : ℕ) (a : A) → r .table b ≡ some a → Meets F b a
-  pub closed : (b : ℕ) (a : A) → r .table b ≡ some a → ¬ In b (r .queue) → (s : ℕ) → In s (F .succs b) → Covered F (r .table) s (F .through b a)
+  pub passed : PassedOn F (λ b. ¬ In b (r .queue)) (r .table)
 
 -- in the middle of a visit: x has still to be met into the states of the pending blocks
 record Mid {A : Type 0} (F : Flow A) (x : A) (pending : List ℕ) (r : Run A) : Type 0 where
   rooted : Covered F (r .table) (F .entry) (F .first)
   met : (b : ℕ) (a : A) → r .table b ≡ some a → Meets F b a
-  closed : (b : ℕ) (a : A) → r .table b ≡ some a → ¬ In b (r .queue) → (s : ℕ) → In s (F .succs b)
-      → Covered F (r .table) s (F .through b a) ⊎ (In s pending × (F .through b a ≡ x))
+  passing : Passing F (λ b. ¬ In b (r .queue)) x pending (r .table)
   fresh : (s : ℕ) → In s pending → Meets F s x
 
 module _ {A : Type 0} (F : Flow A) (L : Laws F) where
-  below-trans : {x y z : A} → Below F x y → Below F y z → Below F x z
-  below-trans {x} {y} {z} p q = cc (L .assoc x y z)
-
-  below-left : (x y : A) → Below F (F .meet x y) x
-  below-left x y = cc (L .assoc x y x, L .comm y x, L .assoc x x y, L .idem x)
-
-  below-right : (x y : A) → Below F (F .meet x y) y
-  below-right x y = cc (L .assoc x y y, L .idem y)
-
   below-meet : (x y z : A) → Below F x y → Below F x z → Below F x (F .meet y z)
-  below-meet x y z p q = cc (L .assoc x y z)
+  below-meet x y z p q = cc (L .meets .assoc x y z)
 
   through-mono : (b : ℕ) (x y : A) → Below F x y → Below F (F .through b x) (F .through b y)
   through-mono b x y p = cc (L .distributes b x y)
 
   pub meet-unique : (b : ℕ) (x y : A) → MeetOverWalks F b x → MeetOverWalks F b y → x ≡ y
-  meet-unique b x y p q = cc (L .comm x y, q .greatest x (p .lower), p .greatest y (q .lower))
+  meet-unique b x y p q = cc (L .meets .comm x y, q .greatest x (p .lower), p .greatest y (q .lower))
 
   meets-through : {b : ℕ} {a : A} (s : ℕ) → In s (F .succs b) → Meets F b a → Meets F s (F .through b a)
   unfolding along
@@ -77,61 +60,40 @@ module _ {A : Type 0} (F : Flow A) (L : Laws F) where
   some-walk (two p q e) = some-walk p
 
   -- storing y at s, where it is at or below what stood there
-  module _ (r : Run A) (s : ℕ) (y : A) (low : (a : A) → r .table s ≡ some a → Below F y a) where
-    covered-update : (c : ℕ) (x : A) → Covered F (r .table) c x → Covered F (update (r .table) s y) c x
-    covered-update c x v = go (ℕ-discrete c s)
-      where
-        go : Dec (c ≡ s) → Covered F (update (r .table) s y) c x
-        go (yes p) =
-            record { state = y; holds = ap (update (r .table) s y) p ∙ update-same (r .table) s y; under = below-trans (low (v .state) (ap (r .table) (sym p) ∙ v .holds)) (v .under) }
-        go (no n) = record { state = v .state; holds = update-other (r .table) s y c n ∙ v .holds; under = v .under }
+  store-mid : (r : Run A) (s : ℕ) (y : A) → ((a : A) → r .table s ≡ some a → Below F y a) → (x : A) (ss : List ℕ) → Below F y x → Meets F s y → Mid F x (s ∷ ss) r → Mid F x ss (store F s y r)
+  unfolding store
+  store-mid r s y low x ss yx my g = record {
+    rooted = covered-update F (L .meets) (r .table) s y low (F .entry) (F .first) (g .rooted);
+    met = met;
+    passing = store-passing F (L .meets) (r .table) s y low x ss yx (λ b nq p. nq (in-right (r .queue) (here p))) (λ b nq m. nq (in-left (s ∷ []) m)) (g .passing);
+    fresh = λ c i. g .fresh c (there i);
+  }
+    where
+      t′ : ℕ → Option A
+      t′ = update (r .table) s y
 
-    store-mid : (x : A) (ss : List ℕ) → Below F y x → Meets F s y → Mid F x (s ∷ ss) r → Mid F x ss (store F s y r)
-    unfolding store
-    store-mid x ss yx my g = record { rooted = covered-update (F .entry) (F .first) (g .rooted); met = met; closed = closed; fresh = λ c i. g .fresh c (there i) }
-      where
-        t′ : ℕ → Option A
-        t′ = update (r .table) s y
-
-        met : (b : ℕ) (a : A) → t′ b ≡ some a → Meets F b a
-        met b a e = go (ℕ-discrete b s)
-          where
-            go : Dec (b ≡ s) → Meets F b a
-            go (yes p) = subst (λ (c : ℕ). Meets F c a) (sym p) (subst (Meets F s) (some-inj (update-same (r .table) s y) (ap t′ (sym p) ∙ e)) my)
-            go (no n) = g .met b a (sym (update-other (r .table) s y b n) ∙ e)
-
-        closed : (b : ℕ) (a : A) → t′ b ≡ some a → ¬ In b (r .queue ++ (s ∷ [])) → (c : ℕ) → In c (F .succs b)
-            → Covered F t′ c (F .through b a) ⊎ (In c ss × (F .through b a ≡ x))
-        closed b a e nq c i = go (g .closed b a (sym (update-other (r .table) s y b ns) ∙ e) (λ m. nq (in-left (s ∷ []) m)) c i)
-          where
-            ns : ¬ (b ≡ s)
-            ns p = nq (in-right (r .queue) (here p))
-
-            go : Covered F (r .table) c (F .through b a) ⊎ (In c (s ∷ ss) × (F .through b a ≡ x)) → Covered F t′ c (F .through b a) ⊎ (In c ss × (F .through b a ≡ x))
-            go (inl v) = inl (covered-update c (F .through b a) v)
-            go (inr (here p, h)) = inl (record { state = y; holds = ap t′ p ∙ update-same (r .table) s y; under = subst (Below F y) (sym h) yx })
-            go (inr (there m, h)) = inr (m, h)
+      met : (b : ℕ) (a : A) → t′ b ≡ some a → Meets F b a
+      met b a e = go (ℕ-discrete b s)
+        where
+          go : Dec (b ≡ s) → Meets F b a
+          go (yes p) = subst (λ (c : ℕ). Meets F c a) (sym p) (subst (Meets F s) (some-inj (update-same (r .table) s y) (ap t′ (sym p) ∙ e)) my)
+          go (no n) = g .met b a (sym (update-other (r .table) s y b n) ∙ e)
 
   push-mid : (s : ℕ) (x : A) (ss : List ℕ) (r : Run A) → Mid F x (s ∷ ss) r → Mid F x ss (push F s x r)
   unfolding push push-at
   push-mid s x ss r g = at (r .table s) refl
     where
       skip : (a : A) → r .table s ≡ some a → Below F a x → Mid F x ss r
-      skip a e l = record { rooted = g .rooted; met = g .met; closed = λ b d e′ nq c i. go (g .closed b d e′ nq c i); fresh = λ c i. g .fresh c (there i) }
-        where
-          go : {c : ℕ} {z : A} → Covered F (r .table) c z ⊎ (In c (s ∷ ss) × (z ≡ x)) → Covered F (r .table) c z ⊎ (In c ss × (z ≡ x))
-          go (inl v) = inl v
-          go (inr (here p, h)) = inl (record { state = a; holds = ap (r .table) p ∙ e; under = subst (Below F a) (sym h) l })
-          go (inr (there m, h)) = inr (m, h)
+      skip a e l = record { rooted = g .rooted; met = g .met; passing = skip-passing F (r .table) x s ss a e l (g .passing); fresh = λ c i. g .fresh c (there i) }
 
       met : (a : A) → r .table s ≡ some a → (d : Dec (F .meet a x ≡ a)) → Mid F x ss (pick d r (store F s (F .meet a x) r))
       met a e (yes l) = skip a e l
       met a e (no n) =
-          store-mid r s (F .meet a x) (λ c h. subst (Below F (F .meet a x)) (some-inj e h) (below-left a x)) x ss (below-right a x)
+          store-mid r s (F .meet a x) (λ c h. subst (Below F (F .meet a x)) (some-inj e h) (below-left F (L .meets) a x)) x ss (below-right F (L .meets) a x)
           (two (g .met s a e) (g .fresh s (here refl)) refl) g
 
       at : (o : Option A) → r .table s ≡ o → Mid F x ss (push-at F o s x r)
-      at none e = store-mid r s x (λ c h. absurd (some-not-none e h)) x ss (L .idem x) (g .fresh s (here refl)) g
+      at none e = store-mid r s x (λ c h. absurd (some-not-none e h)) x ss (L .meets .idem x) (g .fresh s (here refl)) g
       at (some a) e = met a e (F .same (F .meet a x) a)
 
   spread-mid : (ss : List ℕ) (x : A) (r : Run A) → Mid F x ss r → Mid F x [] (spread F ss x r)
@@ -140,11 +102,7 @@ module _ {A : Type 0} (F : Flow A) (L : Laws F) where
   spread-mid (s ∷ ss) x r g = spread-mid ss x (push F s x r) (push-mid s x ss r g)
 
   mid-good : (x : A) (r : Run A) → Mid F x [] r → Good F r
-  mid-good x r g = record { rooted = g .rooted; met = g .met; closed = λ b a e nq s i. go (g .closed b a e nq s i) }
-    where
-      go : {G : Type 0} {s : ℕ} {P : Type 0} → G ⊎ (In s [] × P) → G
-      go (inl v) = v
-      go (inr p) = absurd (in-nil (p .0))
+  mid-good x r g = record { rooted = g .rooted; met = g .met; passed = passing-done F (r .table) x (g .passing) }
 
   -- A visit of any visited block b keeps the invariant: `rest` are the blocks that wait from then on, every one that waited but b
   -- among them, and `ss` are b's successors in any order.
@@ -159,7 +117,12 @@ module _ {A : Type 0} (F : Flow A) (L : Laws F) where
     pub visit-good : (a : A) → r .table b ≡ some a → (ss : List ℕ) → ((s : ℕ) → In s (F .succs b) → In s ss) → ((s : ℕ) → In s ss → In s (F .succs b))
         → Good F (spread F ss (F .through b a) (record { table = r .table; queue = rest }))
     visit-good a h ss all only =
-        mid-good x (spread F ss x r′) (spread-mid ss x r′ (record { rooted = g .rooted; met = g .met; closed = closed; fresh = λ s i. meets-through s (only s i) (g .met b a h) }))
+        mid-good x (spread F ss x r′) (spread-mid ss x r′ (record {
+          rooted = g .rooted;
+          met = g .met;
+          passing = visit-passing F (r .table) b a h ss all left (g .passed);
+          fresh = λ s i. meets-through s (only s i) (g .met b a h);
+        }))
       where
         x : A
         x = F .through b a
@@ -167,24 +130,21 @@ module _ {A : Type 0} (F : Flow A) (L : Laws F) where
         r′ : Run A
         r′ = record { table = r .table; queue = rest }
 
-        closed : (c : ℕ) (d : A) → r .table c ≡ some d → ¬ In c rest → (s : ℕ) → In s (F .succs c) → Covered F (r .table) s (F .through c d) ⊎ (In s ss × (F .through c d ≡ x))
-        closed c d k nq s i = go (ℕ-discrete c b)
-          where
-            go : Dec (c ≡ b) → Covered F (r .table) s (F .through c d) ⊎ (In s ss × (F .through c d ≡ x))
-            go (yes p) = inr (all s (subst (λ (e : ℕ). In s (F .succs e)) p i), cc (some-inj h (ap (r .table) (sym p) ∙ k)))
-            go (no n) = inl (g .closed c d k (left c n nq) s i)
-
     -- an unvisited block may leave the queue
     pub skip-good : r .table b ≡ none → Good F (record { table = r .table; queue = rest })
-    skip-good h = record { rooted = g .rooted; met = g .met; closed = λ c a k nq. g .closed c a k (left c (λ p. some-not-none h (ap (r .table) (sym p) ∙ k)) nq) }
+    skip-good h = record {
+      rooted = g .rooted;
+      met = g .met;
+      passed = record { closed = λ c a k nq. g .passed .closed c a k (left c (λ p. some-not-none h (ap (r .table) (sym p) ∙ k)) nq) };
+    }
 
   -- the start: the entry alone is visited
   pub start-good : (queue : List ℕ) → In (F .entry) queue → Good F (record { table = update (λ b. none) (F .entry) (F .first); queue = queue })
   unfolding along
   start-good queue waits = record {
-    rooted = record { state = F .first; holds = update-same (λ b. none) (F .entry) (F .first); under = L .idem (F .first) };
+    rooted = record { state = F .first; holds = update-same (λ b. none) (F .entry) (F .first); under = L .meets .idem (F .first) };
     met = λ b a e. subst (λ (c : ℕ). Meets F c a) (sym (only b a e)) (one start (some-inj (update-same (λ b. none) (F .entry) (F .first)) (ap t′ (sym (only b a e)) ∙ e)));
-    closed = λ b a e n s i. absurd (n (subst (λ (c : ℕ). In c queue) (sym (only b a e)) waits));
+    passed = record { closed = λ b a e n s i. absurd (n (subst (λ (c : ℕ). In c queue) (sym (only b a e)) waits)) };
   }
     where
       t′ : ℕ → Option A
@@ -204,8 +164,8 @@ module _ {A : Type 0} (F : Flow A) (L : Laws F) where
     walked start = g .rooted
     walked (then {b} {s} w m) =
         let v = walked w in
-        let u = g .closed b (v .state) (v .holds) (λ i. in-nil (subst (In b) done i)) s m in
-        record { state = u .state; holds = u .holds; under = below-trans (u .under) (through-mono b (v .state) (along F w) (v .under)) }
+        let u = g .passed .closed b (v .state) (v .holds) (λ i. in-nil (subst (In b) done i)) s m in
+        record { state = u .state; holds = u .holds; under = below-trans F (L .meets) (u .under) (through-mono b (v .state) (along F w) (v .under)) }
 
     pub is-meet : (b : ℕ) (a : A) → r .table b ≡ some a → MeetOverWalks F b a
     is-meet b a e = record { lower = λ w. low w (walked w); greatest = λ x h. above-meets x h (g .met b a e) }

@@ -90,7 +90,7 @@ module _ (ref : Name → Bool) where
   height-high x = elim x [ absent ↦ omega arith | unknown ↦ omega arith | conflicted ↦ omega arith | named n m ↦ omega arith ]
 
   proper-meet : (x y : Cell) → Proper ref x → Proper ref y → Proper ref (meet House x y)
-  proper-meet = meet-keeps (Proper ref) (λ n k m l p q. names-meet n k m l (Proper ref) (λ e. cc (or-self m)) (λ e. tt))
+  proper-meet = meet-keeps (Proper ref) (λ n k m l p q. names-meet House n k m l (Proper ref) (λ e. cc (or-self m)) (λ e. tt))
 
   proper-falls : (x y : Cell) → Proper ref x → Proper ref y → ¬ (meet House x y ≡ x) → height (meet House x y) < height x
   unfolding meet house-meet height
@@ -103,7 +103,7 @@ module _ (ref : Name → Bool) where
   proper-falls (named n m) unknown p q h = omega arith
   proper-falls (named n m) conflicted p q h = omega arith
   proper-falls (named n m) (named k l) p q h =
-      names-meet n k m l (λ c. ¬ (c ≡ named n m) → height c < height (named n m)) (λ e f. absurd (f (cc (or-self m)))) (λ e f. omega arith) h
+      names-meet House n k m l (λ c. ¬ (c ≡ named n m) → height c < height (named n m)) (λ e f. absurd (f (cc (or-self m)))) (λ e f. omega arith) h
 
   graded : Graded (meet House) (λ (u : Unit {0}). Proper ref) height (λ u. 2)
   graded = record {

@@ -1,6 +1,7 @@
 -- any dataflow problem: its runs, their end, their length
 pub mod Choices
 pub mod Running
+pub mod Passing
 pub mod Flow
 pub mod Order
 pub mod Visits

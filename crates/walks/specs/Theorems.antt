@@ -50,15 +50,25 @@ pub house-idem : (x : Cell) → meet House x x ≡ x
 house-idem = Meet.house-idem
 
 pub states-assoc : (s t u : State) → meet-states House (meet-states House s t) u ≡ meet-states House s (meet-states House t u)
-states-assoc = Effects.states-assoc
+states-assoc = Effects.states-assoc House
 
 pub states-comm : (s t : State) → meet-states House s t ≡ meet-states House t s
-states-comm = Effects.states-comm
+states-comm = Effects.states-comm House
 
 pub states-idem : (s : State) → meet-states House s s ≡ s
-states-idem = Effects.states-idem
+states-idem = Effects.states-idem House
 
--- Every house effect distributes over it, and so does every block.
+-- So is the old meet: a result that a block has met once changes nothing when it comes again.
+pub old-assoc : (x y z : Cell) → meet Old (meet Old x y) z ≡ meet Old x (meet Old y z)
+old-assoc = Meet.cell-assoc Old
+
+pub old-comm : (x y : Cell) → meet Old x y ≡ meet Old y x
+old-comm = Meet.cell-comm Old
+
+pub old-idem : (x : Cell) → meet Old x x ≡ x
+old-idem = Meet.cell-idem Old
+
+-- Every house effect distributes over the house meet, and so does every block.
 pub effect-distributes : (ref : Name → Bool) (x : Step) (s t : State) → effect House ref x (meet-states House s t) ≡ meet-states House (effect House ref x s) (effect House ref x t)
 effect-distributes = Effects.effect-distributes
 

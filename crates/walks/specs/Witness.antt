@@ -13,7 +13,7 @@ use Rattle.paper.specs.Runs.{meet-states}
 use Rattle.paper.specs.Walks.{In, here, there, Passes, SameNames, Alike}
 use Rattle.paper.specs.declared.Rule.the-variants.{House}
 use Rattle.walks.specs.Choices.{some-not-none, in-nil}
-use Rattle.walks.specs.Meet.{house-names}
+use Rattle.walks.specs.Meet.{same-names}
 use Rattle.walks.specs.Effects.{get-meet, effect-distributes}
 use Rattle.walks.specs.Checks.{Holds, Marked, uses-hold, hold-uses, slots-marked, marked-slots, change-holds, holds-change}
 use Rattle.walks.specs.Above.{meet-left, meet-both}
@@ -76,7 +76,7 @@ compare-slots (j ∷ slots) s t f g =
     go (yes p) (inl h) = inl all
       where
         first : Marked (get (meet-states House s t) (slot j))
-        first = record { name = n; is = cc (get-meet s t (slot j), f j (here refl) .is, g j (here refl) .is, house-names n true true) }
+        first = record { name = n; is = cc (get-meet s t (slot j), f j (here refl) .is, g j (here refl) .is, same-names House n true true) }
 
         all : (k : ℕ) → In k (j ∷ slots) → Marked (get (meet-states House s t) (slot k))
         all k (here e) = subst (λ (i : ℕ). Marked (get (meet-states House s t) (slot i))) (sym e) first

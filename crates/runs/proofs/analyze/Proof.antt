@@ -9,10 +9,10 @@ use Rattle.runs.proofs.analyze.Statement.{statement}
 use Rattle.runs.proofs.analyze.Tie as tie
 
 abbrev Inv-loop : tie.InvT-loop
-Inv-loop rule words₀ queue₀ table ring₀ visits₀ words queue ring visits = Going rule words₀ queue₀ words queue ring visits
+Inv-loop rule words₀ queue₀ table ring₀ settled₀ visits₀ words queue ring settled visits = Going rule words₀ queue₀ words queue ring settled visits
 
 abbrev μ-loop : tie.MeasureT-loop
-μ-loop rule words₀ queue₀ table ring₀ visits₀ words queue ring visits = visit-bound rule (sheet-of words₀) - visits
+μ-loop rule words₀ queue₀ table ring₀ settled₀ visits₀ words queue ring settled visits = visit-bound rule (sheet-of words₀) - visits
 
 meet-table-requires : tie.Need-meet-table-requires Inv-loop μ-loop
 meet-table-requires c κs = search needs
@@ -28,25 +28,25 @@ loop-holds c =
 
 visit-requires : tie.Need-visit-requires Inv-loop μ-loop
 visit-requires c κs =
-    let t = c .before .before .before in
+    let t = c .before .before .before .before in
     let m = t .before .before .before .before .before .before .before .before .before .before in
     (m .meet-table .ensures, going-continues (t .before .before .loop .inv), t .if1 .taken)
 
 add-visits : tie.Need-add-visits Inv-loop μ-loop
 add-visits c =
-    let t = c .before .before .before .before .before .before .before .before in
+    let t = c .before .before .before .before .before .before .before .before .before in
     let l = t .before .before in
     omega (arith, going-small (l .loop .inv) (t .if1 .taken))
 
 loop-less : tie.Need-loop-less Inv-loop μ-loop
 loop-less c =
-    let t = c .before .before .before .before .before .before .before .before in
+    let t = c .before .before .before .before .before .before .before .before .before in
     let l = t .before .before in
     omega (arith, going-left (l .loop .inv) (t .if1 .taken))
 
 loop-again : tie.Need-loop-again Inv-loop μ-loop
 loop-again c =
-    let t = c .before .before .before .before .before .before .before .before in
+    let t = c .before .before .before .before .before .before .before .before .before in
     let l = t .before .before in
     going-more (l .loop .inv) (t .if1 .taken) (c .before .before .before .before .visit .ensures)
 

@@ -1,26 +1,28 @@
 -- `visit` meets its contract: after i turns the first i successors have got the result, and `total - i` falls; at the end this is
--- one visit of the run. Visits begun and blocks that wait are together within the visit bound, so each push has room.
+-- one visit of the run. A settled block's visit changes nothing but the queue (`visited-settled`). Visits begun and blocks that wait
+-- are together within the visit bound, so each push has room.
 use Prim.Native.Nat.{ℕ, _+_, _*_, _-_}
 use native.Mathlib.Omega.{arith}
 use borrow.Author.Needs.{needs}
 use lib.ListN.{getD}
 use Rattle.layout.specs.Layout.{block-base, block-words}
 use Rattle.runs.specs.Queue.{Taken}
-use Rattle.runs.proofs.LawsVisit.{Serving, serving-none, serving-more, still-allocated, first-below, Visiting, visiting, serving-ready, serving-block, serving-sound, serving-room, moved-visit}
+use Rattle.runs.proofs.LawsVisit.{Serving, serving-none, serving-more, Settling, settling-none, settling-more, visited-settled, visited-run, still-allocated, first-below, Visiting, visiting, serving-ready, serving-block, serving-sound, serving-room}
 use Rattle.runs.proofs.visit.Statement.{statement}
 use Rattle.runs.proofs.visit.Tie as tie
 
 abbrev Inv-loop : tie.InvT-loop
-Inv-loop table rule words₀ queue₀ head b waiting₀ result at total i₀ words queue waiting i = Serving rule words₀ queue₀ waiting₀ result (at + 3) total words queue waiting i
+Inv-loop table rule words₀ queue₀ settled₀ head b waiting₀ result at total i₀ words queue settled waiting i =
+    Serving rule words₀ queue₀ waiting₀ result (at + 3) total words queue waiting i × Settling rule words₀ queue₀ waiting₀ result (at + 3) total settled₀ settled i
 
 abbrev μ-loop : tie.MeasureT-loop
-μ-loop table rule words₀ queue₀ head b waiting₀ result at total i₀ words queue waiting i = total - i
+μ-loop table rule words₀ queue₀ settled₀ head b waiting₀ result at total i₀ words queue settled waiting i = total - i
 
 abbrev start-of : tie.After-take Inv-loop μ-loop → tie.Start Inv-loop μ-loop
 start-of c = c .before .before .before .before
 
 abbrev take-of : tie.After-through Inv-loop μ-loop → tie.After-take Inv-loop μ-loop
-take-of c = c .before .before
+take-of c = c .before .before .before .before
 
 abbrev through-of : tie.In-loop Inv-loop μ-loop → tie.After-through Inv-loop μ-loop
 through-of c = c .before .before .before
@@ -46,9 +48,19 @@ cast-b c = omega (arith, c .slice-known3 .given (c .before .before .before .args
 take-requires : tie.Need-take-requires Inv-loop μ-loop
 take-requires c κs = search needs
 
+-- the block is one of at most 64
+element-copy-out-if1 : tie.Need-element-copy-out-if1 Inv-loop μ-loop
+element-copy-out-if1 c = let v = visiting (start-of c .pre .1) (taken c) in omega (arith, v .small)
+
+returns : tie.Need-returns Inv-loop μ-loop
+returns c = let t = c .before .before in visited-settled (start-of t .pre .1) (taken t) _ (c .if1 .taken)
+
+element-write-settled : tie.Need-element-write-settled Inv-loop μ-loop
+element-write-settled c = let t = c .before .before in let v = visiting (start-of t .pre .1) (taken t) in omega (arith, v .small)
+
 through-requires : tie.Need-through-requires Inv-loop μ-loop
 through-requires c κs =
-    let t = c .before in
+    let t = c .before .before .before in
     let g = start-of t .pre .1 in
     let k = taken t in
     (g .running .stands .tables .sheet .ready, still-allocated g k, first-below g k)
@@ -72,7 +84,7 @@ cast-total : tie.Need-cast-total Inv-loop μ-loop
 cast-total c = omega (arith, c .slice-known4 .given (block-base + first (c .before) * block-words + 2))
 
 loop-holds : tie.Need-loop-holds Inv-loop μ-loop
-loop-holds c = serving-none
+loop-holds c = (serving-none, settling-none)
 
 add-s : tie.Need-add-s Inv-loop μ-loop
 add-s c = let v = visited (through-of c) in omega (arith, v .small)
@@ -86,7 +98,7 @@ mul-s c = let v = visited (through-of c) in omega (arith, v .small, v .succs)
 slice-read-s : tie.Need-slice-read-s Inv-loop μ-loop
 slice-read-s c =
     let v = visited (through-of (c .before)) in
-    omega (arith, v .small, v .succs, v .size, c .before .before .loop .inv .moved .kept .same-length)
+    omega (arith, v .small, v .succs, v .size, c .before .before .loop .inv .0 .moved .kept .same-length)
 
 cast-s : tie.Need-cast-s Inv-loop μ-loop
 cast-s c =
@@ -95,19 +107,19 @@ cast-s c =
 
 push-requires : tie.Need-push-requires Inv-loop μ-loop
 push-requires c κs =
-    let i = c .before .before .before in
+    let i = c .before .before .before .before in
     let h = through-of i in
     let t = take-of h in
     let a = start-of t in
     let g = a .pre .1 in
     let k = taken t in
-    let s = i .before .loop .inv in
+    let s = i .before .loop .inv .0 in
     let w = h .through .ensures in
     (a .pre .0, serving-ready g k w s, serving-block g k w s (i .loop-test .taken), serving-sound g k w s, serving-room g k w s)
 
 add-i : tie.Need-add-i Inv-loop μ-loop
 add-i c =
-    let i = c .before .before .before .before .before .before .before .before in
+    let i = c .before .before .before .before .before .before .before .before .before in
     let v = visited (through-of i) in
     omega (arith, v .succs, i .loop-test .taken)
 
@@ -117,11 +129,12 @@ loop-less c = search needs
 loop-again : tie.Need-loop-again Inv-loop μ-loop
 loop-again c =
     let p = c .before .before .before .before in
-    let i = p .before .before .before .before in
+    let i = p .before .before .before .before .before in
     let v = visited (through-of i) in
-    serving-more (i .before .loop .inv) (i .loop-test .taken) (omega (arith, v .small, v .succs))
-    (omega (arith, v .small, v .succs, v .size))
-    (p .push .ensures)
+    let inv = i .before .loop .inv in (
+      serving-more (inv .0) (i .loop-test .taken) (omega (arith, v .small, v .succs)) (omega (arith, v .small, v .succs, v .size)) (p .push .ensures .0),
+      settling-more (inv .0) (inv .1) (i .loop-test .taken) (omega (arith, v .small, v .succs)) (omega (arith, v .small, v .succs, v .size)) (p .push .ensures .1),
+    )
 
 same-length : tie.Need-same-length Inv-loop μ-loop
 same-length c = search needs
@@ -129,11 +142,11 @@ same-length c = search needs
 same-length-2 : tie.Need-same-length-2 Inv-loop μ-loop
 same-length-2 c = search needs
 
-returns : tie.Need-returns Inv-loop μ-loop
-returns c =
+returns-2 : tie.Need-returns-2 Inv-loop μ-loop
+returns-2 c =
     let h = c .before .before .before in
     let t = take-of h in
-    moved-visit (start-of t .pre .1) (taken t) (h .through .ensures) (c .before .loop .inv) (c .loop-test .left)
+    visited-run (start-of t .pre .1) (taken t) (h .through .ensures) (c .before .loop .inv .0) (c .before .loop .inv .1) (c .loop-test .left)
 
 pub visit-spec : {M : Type 1} → statement M
 visit-spec =
@@ -144,6 +157,9 @@ visit-spec =
     slice-read-b
     cast-b
     take-requires
+    element-copy-out-if1
+    returns
+    element-write-settled
     through-requires
     mul-at
     add-at
@@ -163,4 +179,4 @@ visit-spec =
     loop-again
     same-length
     same-length-2
-    returns)
+    returns-2)
