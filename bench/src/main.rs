@@ -45,6 +45,7 @@ use parts::{Function as Timed, Part, PARTS};
 
 const USAGE: &str = "usage:
   bench time N SEED ROUNDS    times both sides on N functions
+  bench agree N SEED          compares both sides' answers to N functions
   bench count PART N SEED     runs one part once on each function, for a counter of instructions;
                               PART: none, clear, load, old, house, read, build or run";
 
@@ -53,6 +54,7 @@ fn main() {
     let words: Vec<&str> = arguments.iter().map(|word| word.as_str()).collect();
     let result = match words.as_slice() {
         ["time", n, seed, rounds] => number(n).and_then(|n| time(n, number(seed)?, number(rounds)?)),
+        ["agree", n, seed] => number(n).and_then(|n| agree(n, number(seed)?)),
         ["count", part, n, seed] => number(n).and_then(|n| count(part, n, number(seed)?)),
         _ => Err(USAGE.to_string()),
     };
@@ -86,6 +88,10 @@ fn time(n: u64, seed: u64, rounds: u64) -> Result<(), String> {
     counts.print();
     table::print(&functions);
     Ok(())
+}
+
+fn agree(n: u64, seed: u64) -> Result<(), String> {
+    agree::all(&functions(n, seed), &mut Ours::new()).map(|_| ())
 }
 
 /// One part alone. `none` is what the program does besides.
