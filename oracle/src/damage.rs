@@ -1,9 +1,9 @@
 //! Sheets around the limits, damaged sheets, and lines that break several refusals at once. Most are
 //! to be turned away; each has a near neighbour that is read.
 
-use crate::generate::{allocated, any_inst, small, tangled};
+use crate::generate::{allocated, any_inst, numbered, small, tangled};
 use crate::random::Random;
-use crate::sheet::{Sheet, SHEET_LIMIT};
+use crate::sheet::{Sheet, INST_LIMIT, SHEET_LIMIT};
 
 /// Text with blanks for tabs to a sheet's bytes.
 pub fn sheet(text: &str) -> Vec<u8> {
@@ -229,26 +229,23 @@ fn longest_report() -> Vec<u8> {
     sheet(&format!("F 32 32 256 64 63\n{}O 65535 0 1 v254 31\n{}", blocks, steps))
 }
 
-/// A good sheet of exactly the given length: long operations, the last ones trimmed by their inst.
+/// A good sheet of exactly the given length: long operations behind two short lines, trimmed by their inst, so that no inst falls.
 pub fn of_length(length: usize) -> Vec<u8> {
     let operands: String = (0..8).map(|i| format!(" v{} {}", 248 + i, 24 + i)).collect();
     let long = |inst: &str| format!("O {} 8{} 8{}\n", inst, operands, operands);
-    let head = "F 32 32 256 1 0\nB\n";
     let line = long("10000").len();
-    let mut text = head.to_string();
-    while text.len() + 3 * line < length {
+    let mut text = String::new();
+    let head = "F 32 32 256 1 0\nB\n";
+    while head.len() + text.len() + 3 * line < length {
         text += &long("10000");
     }
     // What is left is filled by short lines of 4 to 8 bytes.
-    while length - text.len() > 16 {
+    while length - head.len() - text.len() > 16 {
         text += "P 65535\n";
     }
-    let left = length - text.len();
-    let (a, b) = (left / 2, left - left / 2);
-    for size in &[a, b] {
-        text += &format!("P {}\n", &"65535"[..size - 3]);
-    }
-    sheet(&text)
+    let left = length - head.len() - text.len();
+    let short = |size: usize| format!("P {}\n", &"10000"[..size - 3]);
+    sheet(&format!("{}{}{}{}", head, short(left / 2), short(left - left / 2), text))
 }
 
 /// A sheet at a limit; the long ones are rare.
@@ -311,11 +308,12 @@ fn random_limit(random: &mut Random) -> Vec<u8> {
 }
 
 fn base(random: &mut Random) -> Sheet {
-    match random.below(3) {
+    let sheet = match random.below(3) {
         0 => small(random),
         1 => tangled(random),
         _ => allocated(random),
-    }
+    };
+    numbered(random, sheet)
 }
 
 const TOKENS: &[&str] = &[
@@ -453,12 +451,31 @@ pub fn several(random: &mut Random) -> Vec<u8> {
         let at = lines.len() - from_end;
         lines.insert(at, line);
     }
+    if !random.clone().percent(10) {
+        raise(&mut lines);
+    }
     lines.push(String::new());
     let mut bytes = sheet(&lines.join("\n"));
     if random.percent(3) {
         bytes.pop();
     }
     bytes
+}
+
+/// Gives a line whose inst falls the last one before it.
+fn raise(lines: &mut [String]) {
+    let mut last = "0".to_string();
+    for line in lines.iter_mut().filter(|line| line.starts_with(&['C', 'O', 'P'][..])) {
+        let mut fields: Vec<&str> = line.split(' ').collect();
+        let number = |text: &str| text.parse::<u32>().ok().filter(|inst| *inst <= INST_LIMIT);
+        let inst = fields.get(1).and_then(|field| number(field));
+        if inst.is_some() && inst < number(&last) {
+            fields[1] = &last;
+            *line = fields.join(" ");
+        } else if inst.is_some() {
+            last = fields[1].to_string();
+        }
+    }
 }
 
 /// The counts of a sheet that a line is held against, and whether the line may go beyond them.

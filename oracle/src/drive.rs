@@ -4,7 +4,7 @@ use crate::damage::always;
 use crate::frames::{answers, plain_old_answer, read_frame, write_frame, Answers, Old};
 use crate::generate::{generate, KINDS};
 use crate::plain::Wrong;
-use crate::sheet::{broken, read};
+use crate::sheet::{broken, falls, read};
 use crate::shrink::shrink;
 use std::collections::BTreeMap;
 use std::io::{Cursor, Read};
@@ -102,6 +102,8 @@ pub struct Counts {
     lines: [[usize; 8]; 2],
     house_only: usize,
     old_only: usize,
+    /// Sheets that are read and in which an inst falls.
+    falling: usize,
     /// For each order of `ORDERS`: sheets whose old report changes, sheets whose old entry states do.
     orders: [[usize; 2]; 4],
 }
@@ -149,6 +151,7 @@ impl Counts {
             lines: [[0; 8]; 2],
             house_only: 0,
             old_only: 0,
+            falling: 0,
             orders: [[0; 2]; 4],
         }
     }
@@ -163,6 +166,7 @@ impl Counts {
             }
             return;
         }
+        self.falling += falls(sheet) as usize;
         let mut accepted = [false; 2];
         for rule in 0..2 {
             let kinds = fault_kinds(&answers[rule]);
@@ -207,6 +211,7 @@ impl Counts {
         }
         println!("accepted by the old rule alone: {}", self.old_only);
         println!("accepted by the house rule alone: {}", self.house_only);
+        println!("read, though an inst falls: {}", self.falling);
         println!("old answers that change with the order of the run:");
         for (at, (name, _)) in ORDERS.iter().enumerate() {
             println!("  {}: {} reports, {} entry states", name, self.orders[at][0], self.orders[at][1]);

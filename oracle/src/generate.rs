@@ -6,7 +6,7 @@ use crate::house::{house_effect, house_faults};
 use crate::plain::{old_effect, old_faults, Cell, State, Wrong};
 use crate::random::Random;
 use crate::report::Fault;
-use crate::sheet::{read, Block, Name, Operand, Sheet, Step, OPERANDS_LIMIT, STEPS_LIMIT};
+use crate::sheet::{read, Block, Name, Operand, Sheet, Step, INST_LIMIT, OPERANDS_LIMIT, STEPS_LIMIT};
 
 pub const KINDS: [&str; 11] = [
     "small", "tangled", "knotted", "ordered", "large", "allocated", "repaired", "wrong-step",
@@ -18,20 +18,67 @@ const WEIGHTS: [usize; 11] = [240, 90, 100, 80, 4, 60, 80, 90, 40, 106, 110];
 pub fn generate(seed: u64, index: u64) -> (usize, Vec<u8>) {
     let random = &mut Random::of(seed, index);
     let kind = random.weighted(&WEIGHTS);
-    let bytes = match KINDS[kind] {
-        "small" => small(random).text(),
-        "tangled" => tangled(random).text(),
-        "knotted" => knotted(random).text(),
-        "ordered" => ordered(random).text(),
-        "large" => large(random).text(),
-        "allocated" => allocated(random).text(),
-        "repaired" => repaired(random).text(),
-        "wrong-step" => wrong_step(random).text(),
-        "limits" => damage::limits(random),
-        "damaged" => damage::damaged(random),
-        _ => damage::several(random),
+    let sheet = match KINDS[kind] {
+        "small" => small(random),
+        "tangled" => tangled(random),
+        "knotted" => knotted(random),
+        "ordered" => ordered(random),
+        "large" => large(random),
+        "allocated" => allocated(random),
+        "repaired" => repaired(random),
+        "wrong-step" => wrong_step(random),
+        "limits" => return (kind, damage::limits(random)),
+        "damaged" => return (kind, damage::damaged(random)),
+        _ => return (kind, damage::several(random)),
     };
-    (kind, bytes)
+    (kind, numbered(random, sheet).text())
+}
+
+/// The sheet with its insts numbered anew: in eighteen of twenty sheets they never fall, in one they fall once, and one keeps those
+/// that it has, which mostly fall. The choices come from a copy of the source, which goes on as if there were none.
+pub fn numbered(random: &Random, mut sheet: Sheet) -> Sheet {
+    let random = &mut random.clone();
+    match random.below(20) {
+        0 => {}
+        1 => {
+            rise(random, &mut sheet);
+            fall_once(random, &mut sheet);
+        }
+        _ => rise(random, &mut sheet),
+    }
+    sheet
+}
+
+fn insts(sheet: &mut Sheet) -> Vec<&mut u32> {
+    sheet.blocks.iter_mut().flat_map(|block| &mut block.steps).filter_map(Step::inst_mut).collect()
+}
+
+/// Insts that rise by a little, stay at times, and now and then leap.
+fn rise(random: &mut Random, sheet: &mut Sheet) {
+    let mut next = any_inst(random);
+    for inst in insts(sheet) {
+        *inst = next;
+        next = match random.below(40) {
+            0 => random.within(next as usize, INST_LIMIT as usize) as u32,
+            1..=8 => next,
+            _ => INST_LIMIT.min(next + 1 + random.number(3)),
+        };
+    }
+}
+
+/// Lowers the insts from one place on, so that the first of them falls by a little.
+fn fall_once(random: &mut Random, sheet: &mut Sheet) {
+    let mut insts = insts(sheet);
+    let places: Vec<usize> = (1..insts.len()).filter(|at| *insts[at - 1] > 0).collect();
+    if places.is_empty() {
+        return;
+    }
+    let at = *random.pick(&places);
+    let least = *insts[at - 1] - 1;
+    let less = *insts[at] - least.saturating_sub(*random.pick(&[0, 0, 1, 7]));
+    for inst in &mut insts[at..] {
+        **inst -= less;
+    }
 }
 
 /// How the steps of a sheet are chosen.
@@ -314,8 +361,8 @@ fn any_step(random: &mut Random, sheet: &Sheet, shape: &Shape, guess: &State) ->
 
 pub fn any_inst(random: &mut Random) -> u32 {
     match random.below(12) {
-        0 => random.number(65_536),
-        1 => 65_535,
+        0 => random.number(INST_LIMIT + 1),
+        1 => INST_LIMIT,
         _ => random.number(30),
     }
 }
@@ -674,12 +721,12 @@ fn changed(random: &mut Random, mut sheet: Sheet) -> Sheet {
 /// The kinds of the functions that bench/ times.
 pub const TIMED_KINDS: [&str; 3] = ["allocated", "wrong-step", "tangled"];
 
-/// A function that bench/ times, of the kinds in turn. A wrong step is one that the old rule reports.
+/// A function that bench/ times, of the kinds in turn; its insts never fall. A wrong step is one that the old rule reports.
 pub fn timed(seed: u64, index: u64) -> Sheet {
     let random = &mut Random::of(seed, index);
     let kind = TIMED_KINDS[index as usize % TIMED_KINDS.len()];
     loop {
-        let sheet = match kind {
+        let mut sheet = match kind {
             "tangled" => tangled_of(random, &Size { succs: TANGLED.succs, ..TIMED }),
             "allocated" => allocated_of(random, &TIMED),
             _ => {
@@ -687,6 +734,7 @@ pub fn timed(seed: u64, index: u64) -> Sheet {
                 changed(random, sheet)
             }
         };
+        rise(random, &mut sheet);
         let harmless = |sheet| old_faults(sheet, Wrong::Nothing).0.is_empty();
         if is_timed(&sheet) && (kind != "wrong-step" || !harmless(&sheet)) {
             return sheet;

@@ -1,5 +1,6 @@
 //! A small seeded source of random choices (splitmix64).
 
+#[derive(Clone)]
 pub struct Random {
     state: u64,
 }

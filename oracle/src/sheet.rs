@@ -51,6 +51,14 @@ impl Step {
             _ => 0,
         }
     }
+
+    /// The inst itself, if the step has one.
+    pub fn inst_mut(&mut self) -> Option<&mut u32> {
+        match self {
+            Step::Change { inst, .. } | Step::Op { inst, .. } | Step::Safepoint { inst, .. } => Some(inst),
+            _ => None,
+        }
+    }
 }
 
 #[derive(Clone, Debug, Default, PartialEq, Eq)]
@@ -239,6 +247,16 @@ fn take(record: Record, seen: &mut Seen) {
             seen.sheet.blocks.last_mut().unwrap().steps.push(step);
         }
     }
+}
+
+/// Does an inst fall: is it smaller than the last one before it, over all lines of good form?
+pub fn falls(bytes: &[u8]) -> bool {
+    let inst = |line: &[u8]| match form(line) {
+        Some(Record::Step(mut step)) => step.inst_mut().copied(),
+        _ => None,
+    };
+    let insts: Vec<u32> = bytes.split(|&byte| byte == b'\n').filter_map(inst).collect();
+    insts.windows(2).any(|pair| pair[1] < pair[0])
 }
 
 // Refusal 3: the form of a line.
