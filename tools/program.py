@@ -59,6 +59,39 @@ def options(words, flags, valued):
     return given, names
 
 
+ASKED = '-h', '--help', '--version'  # flags that every command has
+
+
+def told(given, text, programs):
+    """Whether help or the version was asked for, which is then written. The command ends with NOTHING then: it gave no answer."""
+    if '-h' in given or '--help' in given:
+        hand_on(text.encode())
+    elif '--version' in given:
+        hand_on(identity(programs).encode())
+    return any(each in given for each in ASKED)
+
+
+def identity(programs):
+    """What a command is made of: the crates by their contents, and the toolchain."""
+    toolchain, recorded = version(), recorded_version()
+    proved = 'proved and built here' if all(holds(name, key_of(toolchain)) for name in programs) else 'not proved here yet'
+    named = 'which toolchain.txt names' if toolchain == recorded else f"and toolchain.txt names '{recorded}'"
+    return f"{command} of Itanropen: crates {contents()[:16]}, {proved}; toolchain '{toolchain}', {named}\n"
+
+
+def input_text(name, most):
+    """The bytes of a file, or of standard input where the name is -, as far as so many."""
+    if name == '-' and 0 in closed:
+        raise Trouble('standard input is closed')
+    if name == '-' and os.isatty(0):
+        say('standard input is read from the terminal; Ctrl-D ends it')
+    try:
+        with open(0 if name == '-' else name, 'rb', closefd=name != '-') as file:
+            return file.read(most)
+    except OSError as why:
+        raise because('standard input' if name == '-' else name, why) from None
+
+
 # ---- the toolchain
 
 def ask(*words):
@@ -304,6 +337,8 @@ def output_of(name, text):
 
 
 def frame(text):
+    if len(text) > 99999:
+        raise Trouble('a text is too long for a frame')
     return b'#%d\n%s' % (len(text), text)
 
 
@@ -320,11 +355,11 @@ def read_frame(stream):
 
 
 def feed(stream, requests, sent, wrong):
-    """Writes each request as a frame; what went wrong in making one is kept for who reads the answers."""
+    """Writes each request's frames; what went wrong in making one is kept for who reads the answers."""
     try:
         for request in requests:
             sent.append(len(request))
-            stream.write(frame(request))
+            stream.write(b''.join(map(frame, request)))
     except BrokenPipeError:
         pass
     except Exception as why:
@@ -335,7 +370,8 @@ def feed(stream, requests, sent, wrong):
 
 
 def answers_of(name, requests):
-    """One run of a program over requests in frames: yields the text that answers each, and ends where every one was answered."""
+    """One run of a program over requests, each a list of texts that are sent in frames: yields the text of the one frame that answers
+    each, and ends where every one was answered."""
     sent, wrong, answered = [], [], 0
     with running(name) as child:
         feeder = threading.Thread(target=feed, args=[child.stdin, requests, sent, wrong], daemon=True)
@@ -352,7 +388,7 @@ def answers_of(name, requests):
     if wrong:
         raise wrong[0]
     if answered != len(sent):
-        raise Trouble(f'the program answered {answered} of {len(sent)} sheets: nothing is handed on')
+        raise Trouble(f'the program answered {answered} of {len(sent)} requests: nothing is handed on')
 
 
 # ---- handing on
@@ -408,6 +444,7 @@ def main(name, run):
         say(why)
         code = NOTHING
     except Stopped as why:
+        code = 128 + why.args[0]
         signal.signal(why.args[0], signal.SIG_DFL)
         os.kill(os.getpid(), why.args[0])
     except Exception as why:
