@@ -1,16 +1,17 @@
 -- Document 01, "Joins, loops and edges to try": its rows as one table, and one theorem that computes every row from the
 -- definitions. A join is a meet of two cells, either way round; a sheet is answered from its own bytes, to the answer's bytes; a step
--- takes effect on a state, where a report cannot show it.
+-- takes effect on a state, where a report cannot tell Unknown, Absent and Conflicted apart.
 use mathlib.Core.Path.{_≡_, refl}
 use mathlib.Core.Bool.{Bool, true, false, cond}
 use mathlib.Core.List.{List, [], _∷_, _++_, map}
+use mathlib.Core.Option.{some}
 use Prim.Native.Char.{code}
 use Prim.Native.String.{String}
 use Prim.Native.String as Text
 use lib.Dec.{eqb}
-use Rattle.paper.specs.Text.{Bytes, tab, line-feed, virtual}
+use Rattle.paper.specs.Text.{Bytes, tab, line-feed, real, virtual}
 use Rattle.paper.specs.Cells.{Cell, absent, unknown, conflicted, named, meet}
-use Rattle.paper.specs.Sheet.{Step, change}
+use Rattle.paper.specs.Sheet.{Step, change, operation, safepoint}
 use Rattle.paper.specs.Steps.{State}
 use Rattle.paper.specs.declared.Rule.{Rule}
 use Rattle.paper.specs.declared.Rule.the-variants.{Old, House}
@@ -64,9 +65,34 @@ stale-copy = "F 2 0 1 1 0" ∷ "B" ∷ "O 0 0 1 v0 0" ∷ "M 1 0" ∷ "O 1 0 1 v
 abbrev slot-holds : Cell → State
 slot-holds c = [] ∷ (c ∷ []) ∷ []
 
--- `C` on an Unknown slot; then what the slot holds is asked for by another `C` and by a safepoint
+-- r0 and slot 0 hold two cells
+abbrev both-hold : Cell → Cell → State
+both-hold r k = (r ∷ []) ∷ (k ∷ []) ∷ []
+
+-- a def of v1 in r0; v1 becomes v2 in slot 0; a safepoint that lists slot 0, or no slot
+abbrev define-v1 : Step
+define-v1 = operation 0 [] (record { name = virtual 1; reg = some 0 } ∷ [])
+
+abbrev change-to-v2 : Step
+change-to-v2 = change 0 0 (virtual 1) (virtual 2)
+
+abbrev safepoint-0 : Step
+safepoint-0 = safepoint 0 (0 ∷ [])
+
+abbrev safepoint-none : Step
+safepoint-none = safepoint 0 []
+
+-- `C` on a slot that nothing was stored in (old: Absent); then what the slot holds is asked for by another `C` and by a safepoint
+abbrev change-of-unfilled : List String
+change-of-unfilled = "F 0 1 2 1 0" ∷ "B" ∷ "C 0 0 v0 v1" ∷ "C 1 0 v1 v0" ∷ "P 2 0" ∷ []
+
+-- `C` on an Unknown slot, under the old rule too: what was copied from the unfilled slot 0 is Unknown
 abbrev change-of-unknown : List String
-change-of-unknown = "F 0 1 2 1 0" ∷ "B" ∷ "C 0 0 v0 v1" ∷ "C 1 0 v1 v0" ∷ "P 2 0" ∷ []
+change-of-unknown = "F 1 2 2 1 0" ∷ "B" ∷ "L 0 0" ∷ "S 1 0" ∷ "C 0 1 v0 v1" ∷ "C 1 1 v1 v0" ∷ []
+
+-- `C` from a name to itself, with a copy in a register
+abbrev change-to-itself : List String
+change-to-itself = "F 1 1 2 1 0" ∷ "T 0" ∷ "T 1" ∷ "B" ∷ "O 0 0 1 v0 0" ∷ "S 0 0" ∷ "C 1 0 v0 v0" ∷ "O 2 1 v0 0 0" ∷ []
 
 -- a safepoint, then a use of a marked name in a register
 abbrev marked-in-register : List String
@@ -83,6 +109,10 @@ three-in-line = "F 0 1 3 3 0" ∷ "B 1" ∷ "B 2" ∷ "C 0 0 v0 v1" ∷ "B" ∷ 
 -- an unreached block whose first step has a use
 abbrev unreached-use : List String
 unreached-use = "F 1 0 1 2 0" ∷ "B" ∷ "B" ∷ "O 0 1 v0 0 0" ∷ []
+
+-- every register holds itself at the entry
+abbrev register-used : List String
+register-used = "F 1 0 0 1 0" ∷ "B" ∷ "O 0 1 r0 0 0" ∷ []
 
 -- two uses of one step fail, and the step takes effect
 abbrev two-failing-uses : List String
@@ -125,12 +155,22 @@ rows =
     ∷ sheet House unfilled-slot ("R house 1" ∷ "E 3 1 1 2 r1 - -" ∷ [])
     ∷ sheet Old stale-copy ("R old 0" ∷ [])
     ∷ sheet House stale-copy ("R house 1" ∷ "E 0 3 2 2 r1 - -" ∷ [])
-    ∷ sheet Old change-of-unknown ("R old 2" ∷ "E 0 0 0 4 s0 v0 -" ∷ "E 0 2 2 6 s0 - -" ∷ [])
-    ∷ sheet House change-of-unknown ("R house 3" ∷ "E 0 0 0 4 s0 v0 -" ∷ "E 0 1 1 4 s0 v1 -" ∷ "E 0 2 2 7 s0 - -" ∷ [])
+    ∷ effect Old define-v1 (both-hold (named (real 0) false) (v1 false)) (both-hold (v1 false) (v1 false))
+    ∷ effect House define-v1 (both-hold (named (real 0) false) (v1 false)) (both-hold (v1 false) conflicted)
+    ∷ effect Old change-to-v2 (both-hold (v2 false) (v1 false)) (both-hold (v2 false) (v2 false))
+    ∷ effect House change-to-v2 (both-hold (v2 false) (v1 false)) (both-hold conflicted (v2 false))
+    ∷ sheet Old change-of-unfilled ("R old 2" ∷ "E 0 0 0 4 s0 v0 -" ∷ "E 0 2 2 6 s0 - -" ∷ [])
+    ∷ sheet House change-of-unfilled ("R house 3" ∷ "E 0 0 0 4 s0 v0 -" ∷ "E 0 1 1 4 s0 v1 -" ∷ "E 0 2 2 7 s0 - -" ∷ [])
+    ∷ sheet Old change-of-unknown ("R old 1" ∷ "E 0 2 0 4 s1 v0 -" ∷ [])
+    ∷ sheet House change-of-unknown ("R house 2" ∷ "E 0 2 0 4 s1 v0 -" ∷ "E 0 3 1 4 s1 v1 -" ∷ [])
     ∷ effect Old (change 0 0 (virtual 0) (virtual 1)) (slot-holds unknown) (slot-holds (v1 false))
     ∷ effect House (change 0 0 (virtual 0) (virtual 1)) (slot-holds unknown) (slot-holds unknown)
     ∷ sheet Old marked-in-register ("R old 1" ∷ "E 0 2 1 2 r0 - -" ∷ [])
     ∷ sheet House marked-in-register ("R house 1" ∷ "E 0 2 1 2 r0 - -" ∷ [])
+    ∷ effect Old safepoint-0 (both-hold (v1 true) (v1 true)) (both-hold unknown (v1 true))
+    ∷ effect House safepoint-0 (both-hold (v1 true) (v1 true)) (both-hold conflicted (v1 true))
+    ∷ effect Old safepoint-none (both-hold (v1 false) (v1 true)) (both-hold (v1 false) unknown)
+    ∷ effect House safepoint-none (both-hold (v1 false) (v1 true)) (both-hold (v1 false) conflicted)
     ∷ sheet Old whole-example ("R old 1" ∷ "E 0 2 8 3 r1 v0 r1" ∷ [])
     ∷ sheet House whole-example ("R house 1" ∷ "E 0 2 8 3 r1 v0 r1" ∷ [])
     -- sheets without a star
@@ -138,6 +178,10 @@ rows =
     ∷ sheet House three-in-line ("R house 2" ∷ "E 1 0 0 4 s0 v0 -" ∷ "E 2 0 1 4 s0 v1 -" ∷ [])
     ∷ sheet Old unreached-use ("R old 1" ∷ "E 1 0 0 2 r0 - -" ∷ [])
     ∷ sheet House unreached-use ("R house 1" ∷ "E 1 0 0 2 r0 - -" ∷ [])
+    ∷ sheet Old register-used ("R old 0" ∷ [])
+    ∷ sheet House register-used ("R house 0" ∷ [])
+    ∷ sheet Old change-to-itself ("R old 0" ∷ [])
+    ∷ sheet House change-to-itself ("R house 1" ∷ "E 0 3 2 2 r0 - -" ∷ [])
     ∷ sheet House two-failing-uses ("R house 1" ∷ "E 0 0 4 3 r0 v0 r0" ∷ [])
     ∷ sheet Old missing-uses ("R old 2" ∷ "E 0 1 2 1 - v0 -" ∷ "E 0 1 2 1 - v1 -" ∷ [])
     ∷ sheet House missing-defs ("R house 2" ∷ "E 1 0 2 1 - v2 -" ∷ "E 1 0 2 1 - v3 -" ∷ [])
