@@ -5,7 +5,7 @@ use mathlib.Core.Path.{_≡_, refl, sym}
 use mathlib.Core.HLevel.{Discrete}
 use mathlib.Core.List.{List, [], _∷_, _++_, nil≢cons}
 use mathlib.Core.Option.{Option, none, some}
-use Prim.Native.Nat.{ℕ, suc, zero, _+_, _*_}
+use Prim.Native.Nat.{ℕ, suc, zero, _+_, _*_, _<_}
 use native.Mathlib.Decide.{ℕ-discrete}
 use Rattle.paper.specs.Sheet.{Sheet, succs-of, steps-of, reference-typed}
 use Rattle.paper.specs.Cells.{cell-same, pick, meet}
@@ -116,6 +116,11 @@ begin rule S = record { table = update (before rule S) (S .entry) (entry-state r
 unfoldable pub visit-bound : Rule → Sheet → ℕ
 visit-bound Old S = 1 + S .blocks * (4 * (S .regs + S .slots))
 visit-bound House S = S .blocks * (1 + 3 * (S .regs + S .slots))
+
+-- the run's queue is empty after so many visits, and after no fewer
+pub record EndsAfter (rule : Rule) (S : Sheet) (visits : ℕ) : Type 0 where
+  pub ended : (run (flow rule S) visits (begin rule S)) .queue ≡ []
+  pub no-sooner : (k : ℕ) → k < visits → ¬ ((run (flow rule S) k (begin rule S)) .queue ≡ [])
 
 -- the run to its end: after so many visits the queue is empty
 unfoldable pub analysis : Rule → Sheet → Run State

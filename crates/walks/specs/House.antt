@@ -2,11 +2,11 @@
 -- of serving the blocks ends at the same table.
 use mathlib.Core.Path.{_≡_, refl}
 use mathlib.Core.List.{List, [], _∷_}
-use mathlib.Core.Option.{none, some}
+use mathlib.Core.Option.{Option, none, some}
 use Prim.Native.Nat.{ℕ}
 use Rattle.paper.specs.Sheet.{Sheet}
-use Rattle.paper.specs.Steps.{State}
-use Rattle.paper.specs.Runs.{Run, flow, before, begin, visit-bound, analysis}
+use Rattle.paper.specs.Steps.{State, unreached-state}
+use Rattle.paper.specs.Runs.{Run, flow, before, begin, visit-bound, analysis, entered, checked-from}
 use Rattle.paper.specs.Walks.{here, HouseWalk, MeetOverWalks}
 use Rattle.paper.specs.declared.Rule.the-variants.{House}
 use Rattle.walks.specs.Flow.{Good, start-good, is-meet, reached, unreached}
@@ -33,6 +33,15 @@ module _ (S : Sheet) (C : Closed S) where
 
   pub house-unreached : (b : ℕ) → (analysis House S) .table b ≡ none → ¬ HouseWalk S b
   house-unreached = unreached (flow House S) (house-laws S) (analysis House S) (house-good S) (analysis-ends House S C)
+
+  -- a block that no walk comes to is checked alone
+  pub house-alone : (b : ℕ) → ¬ HouseWalk S b → checked-from House S b ≡ unreached-state House S
+  unfolding checked-from entered
+  house-alone b far = at ((analysis House S) .table b) refl
+    where
+      at : (t : Option State) → (analysis House S) .table b ≡ t → entered House S ((analysis House S) .table b) ≡ unreached-state House S
+      at none e = rw e
+      at (some s) e = absurd (far (house-reached b s e))
 
   same-table : (r : Run State) → Good (flow House S) r → r .queue ≡ [] → (b : ℕ) → r .table b ≡ (analysis House S) .table b
   same-table r g e = same-end (flow House S) (house-laws S) r (analysis House S) g (house-good S) e (analysis-ends House S C)

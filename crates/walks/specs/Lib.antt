@@ -14,6 +14,7 @@ pub mod Effects
 pub mod Fits
 pub mod Bounds
 pub mod Loop
+pub mod Ended
 pub mod House
 -- checks, walks and programs
 pub mod Checks

@@ -12,8 +12,8 @@ use lib.ListN.{length}
 use Rattle.paper.specs.Text.{Bytes, Name}
 use Rattle.paper.specs.Sheet.{Step, Sheet, succs-of, steps-of, reference-typed}
 use Rattle.paper.specs.Cells.{Cell, meet}
-use Rattle.paper.specs.Steps.{State, effect, effects}
-use Rattle.paper.specs.Runs.{Run, meet-states, flow, begin, spread, step, run, visit-bound, analysis, entered, checked-from}
+use Rattle.paper.specs.Steps.{State, unreached-state, effect, effects}
+use Rattle.paper.specs.Runs.{Run, meet-states, flow, begin, spread, step, run, visit-bound, EndsAfter, analysis, entered, checked-from}
 use Rattle.paper.specs.Report.{Line, find-errors, faults, report-text}
 use Rattle.paper.specs.Limits.{max-steps}
 use Rattle.paper.specs.Refusals.{step-count, loaded, read}
@@ -32,6 +32,7 @@ use Rattle.walks.specs.Effects
 use Rattle.walks.specs.Flow
 use Rattle.walks.specs.Fits
 use Rattle.walks.specs.Loop
+use Rattle.walks.specs.Ended
 use Rattle.walks.specs.House as Ends
 use Rattle.walks.specs.Honest
 use Rattle.walks.specs.Acceptance as Accepting
@@ -92,6 +93,13 @@ house-run-ends = Loop.analysis-ends House
 pub old-run-ends : (S : Sheet) → Closed S → (run (flow Old S) (1 + S .blocks * (4 * (S .regs + S .slots))) (begin Old S)) .queue ≡ []
 unfolding analysis visit-bound
 old-run-ends = Loop.analysis-ends Old
+
+-- Each run has one number of visits after which, and not before, its queue is empty, and that number stays within the bound.
+pub run-visits : (rule : Rule) (S : Sheet) → Closed S → (k : ℕ) × (EndsAfter rule S k × (k ≤ visit-bound rule S))
+run-visits rule S C = let e = Ended.ends-after rule S C in (e .0, (e .1, Ended.ends-within rule S C (e .1)))
+
+pub visits-once : (rule : Rule) (S : Sheet) (j k : ℕ) → EndsAfter rule S j → EndsAfter rule S k → j ≡ k
+visits-once rule S j k = Ended.ends-once rule S
 
 -- For code, under either rule. `Standing rule S C k r` is an invariant of the run r, with k the visits begun so far: it holds at the
 -- start, after each visit, and inside a visit after each push.
@@ -187,6 +195,39 @@ read-typed = Reading.read-typed
 pub read-few : (bytes : Bytes) (S : Sheet) → read bytes ≡ loaded S → step-count (S .body) ≤ max-steps
 read-few = Reading.read-few
 
+-- What is known of every sheet that is read, accepted or not: the state that a reached block is checked from is the meet over all
+-- walks, any other block is checked alone, visited blocks are the reached ones, and each run ends within document 01's count of
+-- visits. Where an allocation is missing "no analysis runs": there this is a fact of the definitions only.
+pub record ReadSheet (S : Sheet) : Type 0 where
+  pub meets : (b : ℕ) → HouseWalk S b → MeetOverWalks (flow House S) b (checked-from House S b)
+  pub alone : (b : ℕ) → ¬ HouseWalk S b → checked-from House S b ≡ unreached-state House S
+  pub visited : (b : ℕ) → ((s : State) × ((analysis House S) .table b ≡ some s)) ↔ HouseWalk S b
+  pub house-ends : (run (flow House S) (S .blocks * (1 + 3 * (S .regs + S .slots))) (begin House S)) .queue ≡ []
+  pub old-ends : (run (flow Old S) (1 + S .blocks * (4 * (S .regs + S .slots))) (begin Old S)) .queue ≡ []
+  pub typed-ends : (run (flow House S) (S .blocks * (1 + 2 * (S .regs + S .slots))) (begin House S)) .queue ≡ []
+  pub visits : (rule : Rule) → (k : ℕ) × (EndsAfter rule S k × (k ≤ visit-bound rule S))
+  pub shown : (l : Line) → In l (find-errors House S) → Explained S l
+
+pub read-sheet : (bytes : Bytes) (S : Sheet) → read bytes ≡ loaded S → ReadSheet S
+read-sheet bytes S h =
+    let C = read-closed bytes S h in
+    record {
+      meets = meet-over-all-walks S C;
+      alone = λ b. Ends.house-alone S C b;
+      visited = visited-are-reached S C;
+      house-ends = house-run-ends S C;
+      old-ends = old-run-ends S C;
+      typed-ends = Honest.typed-run-ends S C (read-typed bytes S h);
+      visits = λ rule. run-visits rule S C;
+      shown = Faults.explained S C;
+    }
+
+-- bytes that are read, and whose sheet the acceptance sentence holds of
+pub record Acceptable (bytes : Bytes) : Type 0 where
+  pub sheet : Sheet
+  pub is-read : read bytes ≡ loaded sheet
+  pub sentence : Acceptance sheet
+
 -- what is known of bytes that are accepted under the house rule
 pub record AcceptedBytes (bytes : Bytes) : Type 1 where
   pub sheet : Sheet
@@ -219,6 +260,15 @@ bytes-acceptance bytes S h = (said, λ E. Reading.sheet-accepted House bytes S h
     said e =
         let a = Reading.accepted-sheet House bytes (report-text House []) e in
         exactly .0 (subst (λ (R : Sheet). faults House R ≡ []) (Reading.loaded-inj (sym (a .1 .0) ∙ h)) (a .1 .1))
+
+pub acceptable : {bytes : Bytes} → AcceptedBytes bytes → Acceptable bytes
+acceptable a = record { sheet = a .sheet; is-read = a .is-read; sentence = a .sentence }
+
+pub accepted-exactly : (bytes : Bytes) → (answer House bytes ≡ accepted (report-text House [])) ↔ Acceptable bytes
+accepted-exactly bytes = (
+  λ e. acceptable (accepted-bytes bytes (report-text House []) e),
+  λ a. bytes-acceptance bytes (a .sheet) (a .is-read) .1 (a .sentence),
+)
 
 -- 7. Further. Where marks are the names' own, as they are in every sheet that is read, 2 does in place of 3.
 pub typed-run-ends : (S : Sheet) → Closed S → Typed S → (run (flow House S) (S .blocks * (1 + 2 * (S .regs + S .slots))) (begin House S)) .queue ≡ []
