@@ -5,7 +5,8 @@ use mathlib.Core.Logic.{_⊎_, ⊎-elim}
 use mathlib.Core.List.{List, [], _∷_, _++_, append-assoc}
 use Prim.Native.Nat.{ℕ, _≤_}
 use native.Mathlib.Omega.{arith}
-use lib.ListN.{length, drop, length-append}
+use lib.ListN.{length, take, drop, length-append}
+use lib.Seq.{take-at}
 use Rattle.lists.specs.Sets.{Wrote}
 use Rattle.fields.specs.Spelling.{length-digits}
 use Rattle.paper.specs.Text.{Bytes, tab, line-feed, digits}
@@ -18,7 +19,7 @@ use Rattle.paper.specs.declared.Answer.{Answer}
 use Rattle.paper.specs.declared.Answer.the-variants.{Accepted, Faulty, Refused}
 use Rattle.report.specs.Reported.{wrote-laid}
 use Rattle.checker.specs.Lengths.{long}
-use Rattle.checker.specs.Checked.{lent, refusal-text, Checked, text-outcome, Stated}
+use Rattle.checker.specs.Checked.{lent, refusal-text, Checked, TextOutcome, text-outcome, Stated}
 use Rattle.checker.proofs.Refused.{read-bounded}
 
 -- `X number line`, as it is written part by part
@@ -49,6 +50,15 @@ pub text-left : {text : Bytes} {before after : Lent} {n : ℕ} → too-short bef
     → after ≡ record { report = laid text (before .report); words = zeros (before .words); queue = zeros (before .queue) } → Stated text before after n
 unfolding text-outcome
 text-left {text} {before} s k a = record { whole = rw (s, k, a); fits = rw (a, k) (laid-length text (before .report)) }
+
+-- and the text is what stands at the report's start
+pub text-left-by : {text : Bytes} {before after : Lent} {n : ℕ} → Stated text before after n → too-short before ≡ false → take n (after .report) ≡ text
+unfolding text-outcome laid
+text-left-by {text} {before} {after} {n} c long =
+    let e : text-outcome text before ≡ record { text-length = length text; buffers = record { report = laid text (before .report); words = zeros (before .words); queue = zeros (before .queue) } } = rw long in
+    let k : n ≡ length text = ap (λ (o : TextOutcome). o .text-length) (c .whole ∙ e) in
+    let r : after .report ≡ text ++ drop (length text) (before .report) = ap (λ (o : TextOutcome). o .buffers .report) (c .whole ∙ e) in
+    rw (r, k) (take-at text _ _ refl)
 
 -- bytes are never refused by number 1
 said-number : (rule : Rule) (sheet : Bytes) (number line : ℕ) → answer rule sheet ≡ turned-away number line → 2 ≤ number

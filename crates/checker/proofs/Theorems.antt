@@ -1,26 +1,30 @@
--- What a call of the checker means. One outcome only: two results that both meet a function's promise on the same input are equal,
--- buffers included. And demand 3 for the call itself: where `check` answers accepted under the house rule, the states are the meet
--- over all walks, the acceptance sentence holds, and the sheet's two programs read equal values at every use; and it does so
--- exactly when that sentence holds.
-use mathlib.Core.Path.{_≡_, refl, sym, ap, _∙_}
+-- What a call of the checker means, over the functions' promises `Checked`, `Exported` and `Stated`. One outcome only: two results
+-- that both meet a promise on the same input are equal, buffers included. Demand 3 for `check`, for `itanropen_check` and for the
+-- text that `answer_text` leaves and `regcheck` writes: accepted under the house rule exactly when the sheet is read and the
+-- acceptance sentence holds of it; then its two programs read equal values at every use. And for every sheet that is read, accepted
+-- or not, the report is of states that are the meet over all walks.
+use mathlib.Core.Path.{_≡_, refl, sym, ap, _∙_, subst}
+use mathlib.Core.Logic.{_↔_}
 use mathlib.Core.Bool.{Bool, true, false}
 use Prim.Native.Nat.{ℕ}
 use native.Mathlib.Omega.{arith}
-use mathlib.Core.List.{[]}
-use lib.ListN.{length}
+use mathlib.Core.List.{List, [], _∷_}
+use lib.ListN.{length, take}
 use Rattle.paper.specs.Text.{Bytes}
 use Rattle.paper.specs.Sheet.{Sheet}
-use Rattle.paper.specs.Refusals.{loaded, read}
-use Rattle.paper.specs.Report.{report-text}
+use Rattle.paper.specs.Refusals.{Reading, loaded, refused, read}
+use Rattle.paper.specs.Report.{Line, find-errors, first-list, missing-allocations, faults, report-text}
 use Rattle.paper.specs.Walks.{Acceptance}
-use Rattle.paper.specs.Answer.{Said, accepted, faulty, turned-away, answer, Lent, too-short, answer-of, Outcome, outcome-of, outcome}
+use Rattle.paper.specs.Answer.{Said, accepted, faulty, turned-away, said-of, said-after, answer, written, Lent, too-short, laid, answer-of, report-of, Outcome, outcome-of, outcome}
 use Rattle.paper.specs.declared.Rule.{Rule}
 use Rattle.paper.specs.declared.Rule.the-variants.{House}
 use Rattle.paper.specs.declared.Answer.{Answer}
-use Rattle.paper.specs.declared.Answer.the-variants.{Accepted, Refused}
-use Rattle.walks.specs.Theorems.{AcceptedBytes, accepted-bytes, bytes-acceptance}
-use Rattle.checker.specs.Checked.{Checked, TextOutcome, Stated, Exported}
+use Rattle.paper.specs.declared.Answer.the-variants.{Accepted, Faulty, Refused}
+use Rattle.walks.specs.Theorems.{ReadSheet, read-sheet, Acceptable, AcceptedBytes, acceptable, accepted-bytes, bytes-acceptance}
+use Rattle.checker.specs.Checked.{Checked, TextOutcome, Stated, verdict-of, Exported}
 use Rattle.checker.specs.declared.Verdict.{Verdict}
+use Rattle.checker.proofs.Texts.{text-left-by}
+use Rattle.checker.proofs.Zero.{house-zero, zero-text, zero-said, zero-left}
 
 pub check-one-outcome : {rule : Rule} {sheet : Bytes} {before after after′ : Lent} {r r′ : Answer} → Checked rule sheet before after r → Checked rule sheet before after′ r′
     → (r ≡ r′) × (after ≡ after′)
@@ -39,13 +43,13 @@ pub export-one-outcome : {house : Bool} {sheet : Bytes} {before after after′ :
     → (r ≡ r′) × (after ≡ after′)
 export-one-outcome p q = (p .verdict-is ∙ sym (q .verdict-is), p .lent-is ∙ sym (q .lent-is))
 
--- an accepted call answers what the paper says of the bytes
-pub accepted-said : {rule : Rule} {sheet : Bytes} {before after : Lent} {n : ℕ} → Checked rule sheet before after (Accepted n) → (text : Bytes) × (answer rule sheet ≡ accepted text)
+-- an answer that is accepted is what the paper says of the bytes
+outcome-accepted : (rule : Rule) (sheet : Bytes) (before : Lent) (n : ℕ) → Accepted n ≡ (outcome rule sheet before) .answer → (text : Bytes) × (answer rule sheet ≡ accepted text)
 unfolding outcome outcome-of answer-of
-accepted-said {rule} {sheet} {before} {after} {n} c = at (too-short before) refl (answer rule sheet) refl
+outcome-accepted rule sheet before n e = at (too-short before) refl (answer rule sheet) refl
   where
     told : (o : Outcome) → outcome rule sheet before ≡ o → Accepted n ≡ o .answer
-    told o e = ap (λ (x : Outcome). x .answer) (c .whole ∙ e)
+    told o f = e ∙ ap (λ (x : Outcome). x .answer) f
 
     at : (b : Bool) → too-short before ≡ b → (said : Said) → answer rule sheet ≡ said → (text : Bytes) × (answer rule sheet ≡ accepted text)
     at true s said t = let p = told (record { answer = Refused 1 0; lent = before }) (rw s) in let z : _≡_ {A = ℕ} 0 1 = cc in absurd (omega arith)
@@ -53,11 +57,99 @@ accepted-said {rule} {sheet} {before} {after} {n} c = at (too-short before) refl
     at false s (faulty text) t = let p = told (outcome-of (faulty text) before) (rw (s, t)) in let z : _≡_ {A = ℕ} 0 1 = cc in absurd (omega arith)
     at false s (turned-away k l) t = let p = told (outcome-of (turned-away k l) before) (rw (s, t)) in let z : _≡_ {A = ℕ} 0 1 = cc in absurd (omega arith)
 
-pub check-accepted : {sheet : Bytes} {before after : Lent} {n : ℕ} → Checked House sheet before after (Accepted n) → AcceptedBytes sheet
-check-accepted {sheet} c = let s = accepted-said c in accepted-bytes sheet (s .0) (s .1)
+accepted-outcome : (sheet : Bytes) (before : Lent) (n : ℕ) → Accepted n ≡ (outcome House sheet before) .answer → AcceptedBytes sheet
+accepted-outcome sheet before n e = let s = outcome-accepted House sheet before n e in accepted-bytes sheet (s .0) (s .1)
 
--- and a sheet that the acceptance sentence holds of is answered so, where the lent buffers are long enough
-pub check-accepts : {sheet : Bytes} {before after : Lent} {r : Answer} (S : Sheet) → Checked House sheet before after r → too-short before ≡ false → read sheet ≡ loaded S
-    → Acceptance S → r ≡ Accepted (length (report-text House []))
+-- and a sheet that the acceptance sentence holds of has that outcome, where the lent buffers are long enough
+outcome-accepts : (sheet : Bytes) (before : Lent) (S : Sheet) → too-short before ≡ false → read sheet ≡ loaded S → Acceptance S
+    → (outcome House sheet before) .answer ≡ Accepted (length (report-text House []))
 unfolding outcome outcome-of answer-of
-check-accepts {sheet} S c long h E = ap (λ (o : Outcome). o .answer) (c .whole) ∙ rw (long, bytes-acceptance sheet S h .1 E)
+outcome-accepts sheet before S long h E = rw (long, bytes-acceptance sheet S h .1 E)
+
+-- `check`
+module _ {sheet : Bytes} {before after : Lent} where
+  pub check-accepted : {n : ℕ} → Checked House sheet before after (Accepted n) → AcceptedBytes sheet
+  check-accepted {n} c = accepted-outcome sheet before n (ap (λ (o : Outcome). o .answer) (c .whole))
+
+  pub check-accepts : {r : Answer} (S : Sheet) → Checked House sheet before after r → too-short before ≡ false → read sheet ≡ loaded S → Acceptance S
+      → r ≡ Accepted (length (report-text House []))
+  check-accepts S c long h E = ap (λ (o : Outcome). o .answer) (c .whole) ∙ outcome-accepts sheet before S long h E
+
+  pub check-exactly : {r : Answer} → Checked House sheet before after r → too-short before ≡ false → ((n : ℕ) × (r ≡ Accepted n)) ↔ Acceptable sheet
+  check-exactly c long = (
+    λ a. acceptable (check-accepted (subst (λ (r : Answer). Checked House sheet before after r) (a .1) c)),
+    λ a. (_, check-accepts (a .sheet) c long (a .is-read) (a .sentence)),
+  )
+
+-- `itanropen_check` under the house rule: answer 0
+module _ {sheet : Bytes} {before after : Lent} {r : Verdict} (c : Exported true sheet before after r) where
+  pub export-accepted : r .answer ≡ 0 → AcceptedBytes sheet
+  unfolding verdict-of
+  export-accepted e = at ((outcome House sheet before) .answer) refl
+    where
+      at : (a : Answer) → (outcome House sheet before) .answer ≡ a → AcceptedBytes sheet
+      at (Accepted n) t = accepted-outcome sheet before n (sym t)
+      at (Faulty n) t = let p : r .answer ≡ 1 = ap (λ (v : Verdict). v .answer) (c .verdict-is ∙ ap verdict-of t) in absurd (omega arith)
+      at (Refused k l) t = let p : r .answer ≡ 2 = ap (λ (v : Verdict). v .answer) (c .verdict-is ∙ ap verdict-of t) in absurd (omega arith)
+
+  pub export-accepts : (S : Sheet) → too-short before ≡ false → read sheet ≡ loaded S → Acceptance S → r ≡ verdict-of (Accepted (length (report-text House [])))
+  export-accepts S long h E = c .verdict-is ∙ ap verdict-of (outcome-accepts sheet before S long h E)
+
+  pub export-exactly : too-short before ≡ false → (r .answer ≡ 0) ↔ Acceptable sheet
+  unfolding verdict-of
+  export-exactly long = (
+    λ e. acceptable (export-accepted e),
+    λ a. ap (λ (v : Verdict). v .answer) (export-accepts (a .sheet) long (a .is-read) (a .sentence)),
+  )
+
+-- the text that `answer_text` leaves under the house rule and `regcheck` writes: exactly `R house 0` and LF, the ten bytes of `house-zero`
+module _ (sheet : Bytes) {before after : Lent} {n : ℕ} (c : Stated (written (answer House sheet)) before after n) where
+  pub text-accepted : take n (after .report) ≡ house-zero → AcceptedBytes sheet
+  text-accepted e = accepted-bytes sheet (report-text House []) (zero-said sheet (zero-left c e))
+
+  pub text-accepts : (S : Sheet) → too-short before ≡ false → read sheet ≡ loaded S → Acceptance S → take n (after .report) ≡ house-zero
+  unfolding written
+  text-accepts S long h E = text-left-by c long ∙ ap written (bytes-acceptance sheet S h .1 E) ∙ zero-text
+
+  pub text-exactly : too-short before ≡ false → (take n (after .report) ≡ house-zero) ↔ Acceptable sheet
+  text-exactly long = (λ e. acceptable (text-accepted e), λ a. text-accepts (a .sheet) long (a .is-read) (a .sentence))
+
+-- Every answer with a report, accepted or faulty, under either rule: the sheet that was read; its states are the meet over all walks
+-- and each run ends within document 01's count of visits (`ReadSheet`); the report's lines, which are those of a missing
+-- allocation, or the faults of every block checked from its state.
+pub record ReportOf (rule : Rule) (bytes : Bytes) (before after : Lent) : Type 0 where
+  pub sheet : Sheet
+  pub is-read : read bytes ≡ loaded sheet
+  pub known : ReadSheet sheet
+  pub report-is : after .report ≡ laid (report-text rule (faults rule sheet)) (before .report)
+  pub each-block : missing-allocations sheet ≡ [] → faults rule sheet ≡ find-errors rule sheet
+
+no-missing : (rule : Rule) (S : Sheet) → missing-allocations S ≡ [] → faults rule S ≡ find-errors rule S
+unfolding faults first-list
+no-missing rule S e = rw e
+
+reported-lines : (rule : Rule) (ls : List Line) (report : List ℕ) → report-of (said-of rule ls) report ≡ laid (report-text rule ls) report
+unfolding said-of report-of
+reported-lines rule [] report = refl
+reported-lines rule (l ∷ ls) report = refl
+
+outcome-reported : (rule : Rule) (sheet : Bytes) (before : Lent) → ((k l : ℕ) → ¬ ((outcome rule sheet before) .answer ≡ Refused k l)) → ReportOf rule sheet before ((outcome rule sheet before) .lent)
+unfolding outcome outcome-of answer said-after answer-of
+outcome-reported rule sheet before given = at (too-short before) refl (read sheet) refl
+  where
+    at : (b : Bool) → too-short before ≡ b → (o : Reading) → read sheet ≡ o → ReportOf rule sheet before ((outcome rule sheet before) .lent)
+    at true s o h = absurd (given 1 0 (rw s))
+    at false s (refused k l) h = absurd (given k l (rw (s, h)))
+    at false s (loaded S) h = record {
+      sheet = S;
+      is-read = h;
+      known = read-sheet sheet S h;
+      report-is = rw (s, h) (reported-lines rule (faults rule S) (before .report));
+      each-block = no-missing rule S;
+    }
+
+pub check-reported : {rule : Rule} {sheet : Bytes} {before after : Lent} {r : Answer} → Checked rule sheet before after r → ((k l : ℕ) → ¬ (r ≡ Refused k l))
+    → ReportOf rule sheet before after
+check-reported {rule} {sheet} {before} c given =
+    subst (λ (after : Lent). ReportOf rule sheet before after) (sym (ap (λ (o : Outcome). o .lent) (c .whole)))
+    (outcome-reported rule sheet before (λ k l e. given k l (ap (λ (o : Outcome). o .answer) (c .whole) ∙ e)))
