@@ -42,8 +42,11 @@ abbrev pub letter-D : ℕ
 letter-D = 68
 
 -- `D block visited cell ..`
+abbrev pub state-line : ℕ → Bytes → State → Bytes
+state-line b visited s = letter-D ∷ behind-tabs (digits b ∷ visited ∷ cell-texts s)
+
 unfoldable pub block-text : Rule → Sheet → ℕ → Bytes
-block-text rule S b = letter-D ∷ behind-tabs (digits b ∷ visited-text rule ((analysis rule S) .table b) ∷ cell-texts (checked-from rule S b))
+block-text rule S b = state-line b (visited-text rule ((analysis rule S) .table b)) (checked-from rule S b)
 
 -- the text, where no allocation is missing
 unfoldable pub unless-missing : List Line → Bytes → Bytes
