@@ -23,10 +23,10 @@ use Rattle.sheet.specs.declared.Loading as Loading
 use Rattle.sheet.specs.declared.Loading.the-variants as loading
 use Rattle.cells.specs.States.{stored-state}
 use Rattle.runs.specs.Stands.{Analysed, analysed-sheet, analysed-loaded}
-use Rattle.report.specs.Missing.{missing-lines, MissingOf}
-use Rattle.report.specs.declared.Missing.{Missing}
-use Rattle.report.specs.declared.Missing.the-variants.{Nothing}
-use Rattle.report.specs.Reported.{Checkable, Reported}
+use Rattle.faults.specs.Missing.{missing-lines, MissingOf}
+use Rattle.faults.specs.declared.Missing.{Missing}
+use Rattle.faults.specs.declared.Missing.the-variants.{Nothing}
+use Rattle.faults.specs.Reported.{Checkable, Reported}
 use Rattle.checker.specs.Checked.{Few, lent, AnswerWithin, Answered, Checked, verdict-of, rule-of, Exported}
 use Rattle.checker.specs.declared.Verdict.{Verdict}
 use Rattle.checker.proofs.Refused.{read-bounded}

@@ -17,7 +17,7 @@ use Rattle.paper.specs.Answer.{Said, accepted, faulty, turned-away, said-of, sa
 use Rattle.paper.specs.declared.Rule.{Rule}
 use Rattle.paper.specs.declared.Answer.{Answer}
 use Rattle.paper.specs.declared.Answer.the-variants.{Accepted, Faulty, Refused}
-use Rattle.report.specs.Reported.{wrote-laid}
+use Rattle.report.specs.Laid.{wrote-laid}
 use Rattle.checker.specs.Lengths.{long}
 use Rattle.checker.specs.Checked.{lent, refusal-text, Checked, TextOutcome, text-outcome, Stated}
 use Rattle.checker.proofs.Refused.{read-bounded}

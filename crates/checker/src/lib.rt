@@ -8,12 +8,12 @@ ghost use Rattle.paper.specs.Report.{faults};
 ghost use Rattle.paper.specs.Answer as paper-answer;
 ghost use Rattle.sheet.specs.Loaded.{sheet-of, Loaded};
 ghost use Rattle.checker.specs.Checked.{lent, Few, refusal-text, Answered, Checked, Stated, verdict-of, rule-of, Exported};
+use faults::Missing;
 use layout::QUEUE_SIZE;
 use layout::REPORT_SIZE;
 use layout::WORDS_SIZE;
 use paper::Answer;
 use paper::Rule;
-use report::Missing;
 use sheet::Loading;
 
 // An answer over the C interface: 0 accepted, 1 faulty, 2 refused; the report's length; the refusal's number and line.
@@ -30,12 +30,12 @@ fn write_faults(rule: Rule, words: &mut [u16], queue: &mut [u8], report: &mut [u
     requires { ⌜ Loaded (now words) × Few (now words) × (report-size ≤ length (now report)) × (words-size ≤ length (now words)) × (queue-size ≤ length (now queue)) ⌝ }
     ensures { λ r. ⌜ Answered (paper-answer.said-of rule (faults rule (sheet-of (now (words .entry))))) (now (report .entry)) (now (words .entry)) (now (queue .entry)) (now (report .exit)) (now (words .exit)) (now (queue .exit)) r ⌝ }
 {
-    let missing = report::find_missing(words);
+    let missing = faults::find_missing(words);
     if let Missing::Found { block, place, k } = missing {
-        return report::write_missing(rule, words, report, block, place, k);
+        return faults::write_missing(rule, words, report, block, place, k);
     }
     runs::analyze(rule, words, queue);
-    report::write_errors(rule, words, report)
+    faults::write_errors(rule, words, report)
 }
 
 // The answer to a sheet, where the buffers are large enough; the scratch is left as it falls.

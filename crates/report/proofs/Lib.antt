@@ -1,8 +1,1 @@
 pub mod LawsLines
-pub mod LawsPasses
-pub mod LawsFaults
-pub mod LawsOperands
-pub mod LawsMissing
-pub mod LawsErrors
-pub mod LawsBlock
-pub mod LawsReported

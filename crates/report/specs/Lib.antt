@@ -1,5 +1,3 @@
 pub mod Lines
-pub mod Blocks
-pub mod Passes
-pub mod Missing
-pub mod Reported
+pub mod Lengths
+pub mod Laid

@@ -20,8 +20,8 @@ use Rattle.paper.specs.declared.Rule.the-variants.{Old, House}
 use Rattle.layout.specs.Layout.{regs-word, slots-word, blocks-word, state-at, mark-at, run-words}
 use Rattle.cells.specs.Packed.{name-of-word, marked, of-kind, cell-of}
 use Rattle.cells.specs.States.{cells-of, state-of, rows-at, stored-state}
-use Rattle.report.specs.Blocks.{by-block-more}
-use Rattle.report.proofs.LawsLines.{name-short}
+use Rattle.report.specs.Lengths.{name-short}
+use Rattle.faults.specs.Blocks.{by-block-more}
 use Rattle.sheet.specs.Loaded.{sheet-of}
 use Rattle.runs.specs.Table.{mark-of}
 use Rattle.states.specs.EntryStates.{mark-text, cell-text, cell-texts, visited-text, letter-D, block-text}

@@ -19,10 +19,10 @@ use Rattle.sheet.specs.declared.Loading as Loading
 use Rattle.sheet.specs.declared.Loading.the-variants as loading
 use Rattle.steps.specs.Faults.{some-in}
 use Rattle.runs.specs.Stands.{Analysed, analysed-sheet, analysed-loaded, analysed-state}
-use Rattle.report.specs.Missing.{step-lines, missing-lines, MissingOf}
-use Rattle.report.specs.declared.Missing.{Missing}
-use Rattle.report.specs.declared.Missing.the-variants.{Found}
-use Rattle.report.specs.Reported.{wrote-laid}
+use Rattle.faults.specs.Missing.{step-lines, missing-lines, MissingOf}
+use Rattle.faults.specs.declared.Missing.{Missing}
+use Rattle.faults.specs.declared.Missing.the-variants.{Found}
+use Rattle.report.specs.Laid.{wrote-laid}
 use Rattle.checker.specs.Checked.{lent, Stated}
 use Rattle.checker.proofs.Laws.{loads-sheet, refuses-sheet}
 use Rattle.checker.proofs.Texts.{text-left}

@@ -17,6 +17,7 @@ ghost use Rattle.runs.specs.Table.{mark-of};
 ghost use Rattle.checker.specs.Checked.{lent, Stated};
 ghost use Rattle.states.specs.EntryStates as text;
 ghost use Rattle.states.specs.Stated.{part-text, Written, HoldsStates, row-text, head-text, longest-cell, longest-head, longest-line, longest-text};
+use faults::Missing;
 use layout::BLOCKS_WORD;
 use layout::MARK_BASE;
 use layout::REGS_WORD;
@@ -25,7 +26,6 @@ use layout::SLOTS_WORD;
 use layout::STATE_BASE;
 use layout::STATE_WORDS;
 use paper::Rule;
-use report::Missing;
 use sheet::Loading;
 
 // What is compared of a sheet: what a program writes of its answer, or its entry states.
@@ -142,7 +142,7 @@ fn write_states(
     let Loading::Loaded = loading else {
         return 0;
     };
-    let missing = report::find_missing(words);
+    let missing = faults::find_missing(words);
     let Missing::Nothing = missing else {
         return 0;
     };

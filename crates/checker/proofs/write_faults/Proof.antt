@@ -4,7 +4,7 @@ use mathlib.Core.Path.{_≡_, refl}
 use mathlib.Core.List.{[]}
 use Rattle.paper.specs.Report.{missing-allocations}
 use Rattle.sheet.specs.Loaded.{sheet-of}
-use Rattle.report.specs.Reported.{Checkable}
+use Rattle.faults.specs.Reported.{Checkable}
 use Rattle.checker.proofs.Laws.{reported, nothing-missing, same-sheet, checkable}
 use borrow.Author.Needs.{needs}
 use Rattle.checker.proofs.write_faults.Statement.{statement}

@@ -1,6 +1,6 @@
 -- `write_named` meets its contract: the name, and `*` behind it where the word is marked.
 use native.Mathlib.Omega.{arith}
-use Rattle.report.proofs.LawsLines.{name-short}
+use Rattle.report.specs.Lengths.{name-short}
 use Rattle.states.proofs.Laws.{wrote-marked, wrote-unmarked}
 use borrow.Author.Needs.{needs}
 use Rattle.states.proofs.write_named.Statement.{statement}
