@@ -267,6 +267,10 @@ def build(names, lock):
             os.chmod(program.path, program.stat().st_mode & 0o666)
 
 
+# what `rt` says of a crate where nothing is wrong
+NOISE = re.compile(r'library |logic |logic=proved|axioms |linked |note: |\S*: note: |(fn|enum|struct) .*: proved$|rt: \w+ (proved \(|ran )')
+
+
 def check(names, lock):
     """Runs `rt check` on the programs and says which crate of how many is proved. Its temporary files and all that it started go
     when it ends, also where it is stopped."""
@@ -281,7 +285,8 @@ def check(names, lock):
         child = subprocess.Popen(['rt', 'check', *names], cwd=ROOT, stdin=subprocess.DEVNULL, stdout=subprocess.PIPE, stderr=subprocess.STDOUT,
                                  text=True, errors='replace', env=dict(environment, TMPDIR=room), start_new_session=True, pass_fds=[lock])
         for line in child.stdout:
-            last.append(line)
+            if not NOISE.match(line):
+                last.append(line)
             proved = re.match(r'rt: (\w+) proved \((unchanged)?', line)
             done += bool(proved)
             if proved and not proved[2]:
