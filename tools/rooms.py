@@ -1,53 +1,82 @@
-"""What tools/edits and tools/mutate share: a copy of the repository in which the prover judges a changed crate in seconds, and where
-the functions of a source file stand."""
+"""What tools/edits and tools/mutate share: a copy of the crates in which the prover judges a changed one in seconds, and where the
+functions of a source file stand."""
 import os, re, shutil, subprocess, tempfile
 from concurrent.futures import ThreadPoolExecutor
 from contextlib import contextmanager
 from queue import Queue
 
 ROOT = os.path.dirname(os.path.dirname(os.path.abspath(__file__)))
+LIBRARIES = os.path.join(ROOT, 'target/rlib')
+
+
+def dependencies():
+    """What each crate stands on, by crates.txt."""
+    lines = [line.split('#')[0].partition(':') for line in read('crates.txt').splitlines()]
+    return {name.strip(): rest.split() for name, colon, rest in lines if colon}
+
+
+def reached(crate):
+    """The crates of the repository that a crate stands on, directly or not."""
+    below = dependencies()
+    found, todo = [], [crate]
+    while todo:
+        todo = [d for name in todo for d in below[name] if d in below and d not in found]
+        found += dict.fromkeys(todo)
+    return found
 
 
 class Room:
-    """A copy of the repository in which every crate is proved as it stands. Its libraries are links, and nothing writes to them."""
+    """A copy of the crates' files. The libraries that a crate stands on are those of target/, and nothing writes to them."""
 
     def __init__(self, place):
-        self.place = place
-        os.makedirs(os.path.join(place, 'target'))
-        shutil.copy(os.path.join(ROOT, 'crates.txt'), place)
-        for part, copy in (('crates', shutil.copy), ('target/rlib', os.link), ('target/stamp', shutil.copy)):
-            shutil.copytree(os.path.join(ROOT, part), os.path.join(place, part), copy_function=copy)
-        self.rt('dev', 'scratch')  # makes an incremental folder, for its name
-        made = os.path.join(place, 'target/inc/scratch')
-        self.modules = os.listdir(made)[0] if os.path.isdir(made) else None
+        self.place, self.courtesy = place, []
+        shutil.copytree(os.path.join(ROOT, 'crates'), os.path.join(place, 'crates'))
 
     def rt(self, *words, folder=None):
         """The status and words of one call of rt."""
-        run = subprocess.run(['rt', *words], cwd=folder or self.place, stdout=subprocess.PIPE, stderr=subprocess.STDOUT, text=True,
-                             errors='replace', env=dict(os.environ, RT_CUT='0'))
+        run = subprocess.run([*self.courtesy, 'rt', *words], cwd=folder or self.place, stdout=subprocess.PIPE, stderr=subprocess.STDOUT,
+                             text=True, errors='replace', env=dict(os.environ, RT_CUT='0'))
         return run.returncode, run.stdout
 
-    def check(self, crate, texts, seeded=True):
+    def check(self, crate, texts, seeded=True, libraries=LIBRARIES):
         """The prover's status and words on a crate in which these files have these texts; seeded: with the modules at hand that
         `rt check` checked."""
-        inc = os.path.join(self.place, 'target/inc', crate)
-        checked = os.path.join(self.place, 'target/rlib', crate + '.rlib', 'toolchain/checked')
-        shutil.rmtree(inc, ignore_errors=True)
-        if seeded and self.modules and os.path.isdir(checked):
-            shutil.copytree(checked, os.path.join(inc, self.modules), copy_function=os.link)
+        incremental = os.path.join(self.place, 'incremental')
+        shutil.rmtree(incremental, ignore_errors=True)
+        if seeded:
+            seed(crate, incremental)
         for path, text in texts.items():
             write(os.path.join(self.place, 'crates', crate, path), text)
-        said = self.rt('dev', crate)
+        here = dependencies()
+        words = [w for d in here[crate] if d in here for w in ('--extern', f'{d}={libraries}/{d}.rlib')]
+        kits = ','.join(d for d in here[crate] if d not in here)
+        said = self.rt('check', os.path.join(self.place, 'crates', crate), '--deps', kits, *words, '-L', f'dependency={libraries}',
+                       '--incremental', incremental)
         for path in texts:
             shutil.copy(os.path.join(ROOT, 'crates', crate, path), os.path.join(self.place, 'crates', crate, path))
         return said
 
 
+def seed(crate, incremental):
+    """Puts the checked modules that a proved crate's library carries where the prover looks for those of an earlier run."""
+    library = os.path.join(LIBRARIES, crate + '.rlib')
+    checked = os.path.join(library, 'toolchain/checked')
+    build = re.search(r'^rattle-build (\S+)', read(library, 'format'), re.M) if os.path.isdir(checked) else None
+    if build:
+        shutil.copytree(checked, os.path.join(incremental, build.group(1).replace('/', '_')), copy_function=os.link)
+
+
+def prove(crates, kind):
+    """Proves what of these crates is not proved as it stands."""
+    run = subprocess.run(['rt', 'check', *crates], cwd=ROOT, stdout=subprocess.PIPE, stderr=subprocess.STDOUT, text=True, errors='replace')
+    if run.returncode != 0:
+        raise SystemExit(f'{run.stdout}{kind}: the crates are not proved as they stand')
+
+
 @contextmanager
 def rooms(jobs, kind):
-    """Gives a function that runs a job on each item of a list, each in a free room, and yields items and results in order."""
-    if not os.path.isdir(os.path.join(ROOT, 'target/stamp')):
-        raise SystemExit(f"{kind}: the crates are not proved yet: run 'rt check' first")
+    """Gives a function that runs a job on each item of a list, each in a free room, and yields items and results in order. The crates
+    that a job changes are proved as they stand."""
     work = tempfile.mkdtemp(prefix=kind + '.', dir=os.path.join(ROOT, 'target'))
     free = Queue()
 
@@ -92,16 +121,16 @@ def functions(text):
     return found
 
 
-def batches(changes, function):
+def batches(changes, function, clash=lambda a, b: False):
     """The changes in batches to be tried together, at most one of a function in each, since a function's proof sees nothing of
-    another's code; one of no single function stands alone."""
+    another's code, and none that clash; one of no single function stands alone."""
     shared, alone = [], []
     for change in changes:
         name = function(change)
         if name is None:
             alone.append([change])
             continue
-        room = next((b for b in shared if all(function(o) != name for o in b)), None)
+        room = next((b for b in shared if not any(function(o) == name or clash(o, change) for o in b)), None)
         if room is None:
             shared.append([change])
         else:
