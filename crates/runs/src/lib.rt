@@ -221,10 +221,10 @@ fn visit(
     waiting
 }
 
-// The run of a rule to its end, in the words behind the loaded sheet.
-pub fn analyze(rule: Rule, words: &mut [u16], queue: &mut [u8])
+// The run of a rule to its end, in the words behind the loaded sheet: how many visits it took.
+pub fn analyze(rule: Rule, words: &mut [u16], queue: &mut [u8]) -> usize
     requires { ⌜ Loaded (now words) × (missing-allocations (sheet-of (now words)) ≡ []) × (run-words ≤ length (now words)) × (queue-size ≤ length (now queue)) ⌝ }
-    ensures { λ r. ⌜ Analysed rule (now (words .entry)) (now (queue .entry)) (now (words .exit)) (now (queue .exit)) ⌝ }
+    ensures { λ r. ⌜ Analysed rule (now (words .entry)) (now (queue .entry)) (now (words .exit)) (now (queue .exit)) × paper-runs.EndsAfter rule (sheet-of (now (words .entry))) r × (r ≤ paper-runs.visit-bound rule (sheet-of (now (words .entry)))) ⌝ }
 {
     let table = cells::meet_table();
     let mut ring = begin(rule, words, queue);
@@ -235,4 +235,5 @@ pub fn analyze(rule: Rule, words: &mut [u16], queue: &mut [u8])
         ring = next;
         visits += 1;
     }
+    visits
 }

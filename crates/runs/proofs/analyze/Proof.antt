@@ -4,7 +4,7 @@ use native.Mathlib.Omega.{arith}
 use borrow.Author.Needs.{needs}
 use Rattle.paper.specs.Runs.{visit-bound}
 use Rattle.sheet.specs.Loaded.{sheet-of}
-use Rattle.runs.proofs.LawsAnalysis.{Going, going-begins, going-continues, going-left, going-small, going-more, going-ends, analysed-from}
+use Rattle.runs.proofs.LawsAnalysis.{Going, going-begins, going-continues, going-left, going-small, going-more, going-ends, going-ended, analysed-from, ended-from}
 use Rattle.runs.proofs.analyze.Statement.{statement}
 use Rattle.runs.proofs.analyze.Tie as tie
 
@@ -59,7 +59,9 @@ same-length-2 c = search needs
 returns : tie.Need-returns Inv-loop μ-loop
 returns c =
     let l = c .before .before in
-    analysed-from (l .before .before .before .before .before .begin .ensures) (going-ends (l .loop .inv) (c .if1 .left))
+    let b = l .before .before .before .before .before .begin .ensures in
+    let e = ended-from b (going-ended (l .loop .inv) (c .if1 .left)) in
+    (analysed-from b (going-ends (l .loop .inv) (c .if1 .left)), e .0, e .1)
 
 pub analyze-spec : {M : Type 1} → statement M
 analyze-spec =

@@ -49,7 +49,8 @@ write-blocks-requires : tie.Need-write-blocks-requires
 write-blocks-requires c κs = let a = c .before .before .before .before .before .before in
     let f = a .before .before .before .before .before in
     let l = f .before .before .before .before .before .before .load .ensures in
-    (holds-states (loaded-words l (f .before .before .enum-told .given .1)) (a .analyze .ensures) (omega (arith, l .same-length)), omega arith)
+    let given = f .before .before .before .before .before .before .before .before .before .before .before .before .pre in
+    (holds-states (loaded-words l (f .before .before .enum-told .given .1)) (a .analyze .ensures .0) (omega (arith, l .same-length, given .1)), omega (arith, given .0))
 
 same-length-3 : tie.Need-same-length-3
 same-length-3 c = search needs
@@ -67,7 +68,7 @@ returns-3 c = let w = c .before .before in
     let l = f .before .before .before .before .before .before .load .ensures in
     let loads = loaded-words l (f .before .before .enum-told .given .1) in
     let full = nothing-missing (f .find-missing .ensures) (a .before .before .before .enum-told3 .given .1) in
-    written-text (text-full (f .before .before .before .before .before .before .before .before .before .before .before .before .args .rule) l (f .before .before .enum-told .given .1) full) (rw (← same-text loads (a .analyze .ensures)) (w .write-blocks .ensures .0)) (w .write-blocks .ensures .1) (f .before .before .before .before .before .before .before .before .before .before .before .before .pre .0) (omega (arith, l .same-length, a .analyze .ensures .kept .same-length)) (a .analyze .ensures .same-length)
+    written-text (text-full (f .before .before .before .before .before .before .before .before .before .before .before .before .args .rule) l (f .before .before .enum-told .given .1) full) (rw (← same-text loads (a .analyze .ensures .0)) (w .write-blocks .ensures .0)) (w .write-blocks .ensures .1) (f .before .before .before .before .before .before .before .before .before .before .before .before .pre .0) (omega (arith, l .same-length, a .analyze .ensures .0 .kept .same-length)) (a .analyze .ensures .0 .same-length)
 
 pub write-states-spec : {M : Type 1} → statement M
 write-states-spec =
