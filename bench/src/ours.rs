@@ -17,11 +17,11 @@ pub struct Verdict {
     pub line: usize,
 }
 
-// Rattle passes a slice as its pointer and its length.
+// As include/itanropen.h declares it: a slice is its pointer and a count of its elements; rule 0 is the old rule, any other the house rule.
 #[link(name = "checker", kind = "static")]
 extern "C" {
     fn itanropen_check(
-        house: bool,
+        rule: u64,
         sheet: *const u8,
         sheet_length: usize,
         report: *mut u8,
@@ -53,7 +53,7 @@ impl Ours {
         // The buffers are distinct, live for the call, and as long as is said.
         unsafe {
             itanropen_check(
-                house,
+                u64::from(house),
                 sheet.as_ptr(),
                 sheet.len(),
                 self.report.as_mut_ptr(),

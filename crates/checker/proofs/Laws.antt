@@ -1,8 +1,8 @@
 -- From what the callees promise to what is said of a sheet, and from that to the paper's outcome.
 use mathlib.Core.Path.{_≡_, refl, sym, ap, _∙_, subst}
-use mathlib.Core.Bool.{Bool, true, false}
+use mathlib.Core.Bool.{true, false}
 use mathlib.Core.List.{List, [], _∷_}
-use Prim.Native.Nat.{ℕ, _≤_, _<_}
+use Prim.Native.Nat.{ℕ, zero, suc, _≤_, _<_}
 use native.Mathlib.Omega.{arith}
 use lib.ListN.{length, replicate}
 use Rattle.paper.specs.Text.{Bytes}
@@ -13,6 +13,7 @@ use Rattle.paper.specs.Runs.{checked-from}
 use Rattle.paper.specs.Report.{Line, report-text, missing-allocations, faults}
 use Rattle.paper.specs.Answer.{Said, said-of, said-after, answer, Lent, too-short, zeros, answer-of, report-of, Outcome, outcome-of, outcome}
 use Rattle.paper.specs.declared.Rule.{Rule}
+use Rattle.paper.specs.declared.Rule.the-variants.{Old, House}
 use Rattle.paper.specs.declared.Answer.{Answer}
 use Rattle.paper.specs.declared.Answer.the-variants.{Refused}
 use Rattle.layout.specs.Layout.{state-at}
@@ -143,9 +144,19 @@ checked a w q e = record {
   within = a .within;
 }
 
+-- the rule by its number
+pub number-0 : (number : ℕ) → number ≡ 0 → Old ≡ rule-of number
+unfolding rule-of
+number-0 number e = rw e
+
+pub number-other : (number : ℕ) → ¬ (number ≡ 0) → House ≡ rule-of number
+unfolding rule-of
+number-other zero e = absurd (e refl)
+number-other (suc n) e = refl
+
 -- the same over the C interface
-pub exported : {house : Bool} {rule : Rule} {sheet : Bytes} {before after : Lent} {a : Answer} {r : Verdict} → Checked rule sheet before after a → rule ≡ rule-of house
-    → r ≡ verdict-of a → Exported house sheet before after r
+pub exported : {number : ℕ} {rule : Rule} {sheet : Bytes} {before after : Lent} {a : Answer} {r : Verdict} → Checked rule sheet before after a → rule ≡ rule-of number
+    → r ≡ verdict-of a → Exported number sheet before after r
 exported {sheet} {before} c e v =
     let w = c .whole ∙ ap (λ (rule : Rule). outcome rule sheet before) e in
     record { verdict-is = v ∙ ap (λ (o : Outcome). verdict-of (o .answer)) w; lent-is = ap (λ (o : Outcome). o .lent) w }

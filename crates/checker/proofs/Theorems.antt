@@ -6,23 +6,26 @@
 use mathlib.Core.Path.{_≡_, refl, sym, ap, _∙_, subst}
 use mathlib.Core.Logic.{_↔_}
 use mathlib.Core.Bool.{Bool, true, false}
-use Prim.Native.Nat.{ℕ}
+use Prim.Native.Nat.{ℕ, _≤_}
 use native.Mathlib.Omega.{arith}
 use mathlib.Core.List.{List, [], _∷_}
 use lib.ListN.{length, take}
+use Rattle.lists.specs.Split.{by-equal}
 use Rattle.paper.specs.Text.{Bytes}
 use Rattle.paper.specs.Sheet.{Sheet}
+use Rattle.paper.specs.Runs.{visit-bound, EndsAfter}
 use Rattle.paper.specs.Refusals.{Reading, loaded, refused, read}
 use Rattle.paper.specs.Report.{Line, find-errors, first-list, missing-allocations, faults, report-text}
 use Rattle.paper.specs.Walks.{Acceptance}
 use Rattle.paper.specs.Answer.{Said, accepted, faulty, turned-away, said-of, said-after, answer, written, Lent, too-short, laid, answer-of, report-of, Outcome, outcome-of, outcome}
 use Rattle.paper.specs.declared.Rule.{Rule}
-use Rattle.paper.specs.declared.Rule.the-variants.{House}
+use Rattle.paper.specs.declared.Rule.the-variants.{Old, House}
 use Rattle.paper.specs.declared.Answer.{Answer}
 use Rattle.paper.specs.declared.Answer.the-variants.{Accepted, Faulty, Refused}
 use Rattle.walks.specs.Theorems.{ReadSheet, read-sheet, Acceptable, AcceptedBytes, acceptable, accepted-bytes, bytes-acceptance}
-use Rattle.checker.specs.Checked.{Checked, TextOutcome, Stated, verdict-of, Exported}
+use Rattle.checker.specs.Checked.{Checked, TextOutcome, Stated, verdict-of, rule-of, Exported}
 use Rattle.checker.specs.declared.Verdict.{Verdict}
+use Rattle.checker.proofs.Laws.{number-0, number-other}
 use Rattle.checker.proofs.Texts.{text-left-by}
 use Rattle.checker.proofs.Zero.{house-zero, zero-text, zero-said, zero-left}
 
@@ -39,7 +42,7 @@ text-one-outcome p q =
     let e = p .whole ∙ sym (q .whole) in
     (ap (λ (o : TextOutcome). o .text-length) e, ap (λ (o : TextOutcome). o .buffers) e)
 
-pub export-one-outcome : {house : Bool} {sheet : Bytes} {before after after′ : Lent} {r r′ : Verdict} → Exported house sheet before after r → Exported house sheet before after′ r′
+pub export-one-outcome : {rule : ℕ} {sheet : Bytes} {before after after′ : Lent} {r r′ : Verdict} → Exported rule sheet before after r → Exported rule sheet before after′ r′
     → (r ≡ r′) × (after ≡ after′)
 export-one-outcome p q = (p .verdict-is ∙ sym (q .verdict-is), p .lent-is ∙ sym (q .lent-is))
 
@@ -81,19 +84,26 @@ module _ {sheet : Bytes} {before after : Lent} where
     λ a. (_, check-accepts (a .sheet) c long (a .is-read) (a .sentence)),
   )
 
--- `itanropen_check` under the house rule: answer 0
-module _ {sheet : Bytes} {before after : Lent} {r : Verdict} (c : Exported true sheet before after r) where
+-- `itanropen_check`: no number but 0 is the old rule
+pub old-by-0 : (rule : ℕ) → (rule-of rule ≡ Old) ↔ (rule ≡ 0)
+old-by-0 rule = (λ e. by-equal rule 0 (λ z. z) (λ other. let z : House ≡ Old = number-other rule other ∙ e in let no : _≡_ {A = ℕ} 0 1 = cc in absurd (omega arith)), λ z. sym (number-0 rule z))
+
+-- under the house rule: answer 0
+module _ {rule : ℕ} {sheet : Bytes} {before after : Lent} {r : Verdict} (house : ¬ (rule ≡ 0)) (c : Exported rule sheet before after r) where
+  verdict-is : (a : Answer) → (outcome House sheet before) .answer ≡ a → r ≡ verdict-of a
+  verdict-is a t = c .verdict-is ∙ ap (λ (rule : Rule). verdict-of ((outcome rule sheet before) .answer)) (sym (number-other rule house)) ∙ ap verdict-of t
+
   pub export-accepted : r .answer ≡ 0 → AcceptedBytes sheet
   unfolding verdict-of
   export-accepted e = at ((outcome House sheet before) .answer) refl
     where
       at : (a : Answer) → (outcome House sheet before) .answer ≡ a → AcceptedBytes sheet
       at (Accepted n) t = accepted-outcome sheet before n (sym t)
-      at (Faulty n) t = let p : r .answer ≡ 1 = ap (λ (v : Verdict). v .answer) (c .verdict-is ∙ ap verdict-of t) in absurd (omega arith)
-      at (Refused k l) t = let p : r .answer ≡ 2 = ap (λ (v : Verdict). v .answer) (c .verdict-is ∙ ap verdict-of t) in absurd (omega arith)
+      at (Faulty n) t = let p : r .answer ≡ 1 = ap (λ (v : Verdict). v .answer) (verdict-is (Faulty n) t) in absurd (omega arith)
+      at (Refused k l) t = let p : r .answer ≡ 2 = ap (λ (v : Verdict). v .answer) (verdict-is (Refused k l) t) in absurd (omega arith)
 
   pub export-accepts : (S : Sheet) → too-short before ≡ false → read sheet ≡ loaded S → Acceptance S → r ≡ verdict-of (Accepted (length (report-text House [])))
-  export-accepts S long h E = c .verdict-is ∙ ap verdict-of (outcome-accepts sheet before S long h E)
+  export-accepts S long h E = verdict-is _ (outcome-accepts sheet before S long h E)
 
   pub export-exactly : too-short before ≡ false → (r .answer ≡ 0) ↔ Acceptable sheet
   unfolding verdict-of
@@ -153,3 +163,10 @@ pub check-reported : {rule : Rule} {sheet : Bytes} {before after : Lent} {r : An
 check-reported {rule} {sheet} {before} c given =
     subst (λ (after : Lent). ReportOf rule sheet before after) (sym (ap (λ (o : Outcome). o .lent) (c .whole)))
     (outcome-reported rule sheet before (λ k l e. given k l (ap (λ (o : Outcome). o .answer) (c .whole) ∙ e)))
+
+-- "every run ends within document 01's count of block visits": where `check` answers with a report, its sheet's run under its rule is
+-- over after one number of visits, which stays within the count. `check` returns no number: that the run it makes takes so many is
+-- the contract of `runs::analyze`, which returns that very number (`EndsAfter`; `visits-once` of `walks` has that there is no other).
+pub check-visits : {rule : Rule} {sheet : Bytes} {before after : Lent} {r : Answer} → Checked rule sheet before after r → ((k l : ℕ) → ¬ (r ≡ Refused k l))
+    → (S : Sheet) × ((read sheet ≡ loaded S) × ((k : ℕ) × (EndsAfter rule S k × (k ≤ visit-bound rule S))))
+check-visits {rule} c given = let p = check-reported c given in (p .sheet, (p .is-read, p .known .visits rule))

@@ -1,8 +1,8 @@
 -- What a call leaves behind, against the paper's `outcome`: the answer and the three lent buffers in one equation.
 use mathlib.Core.Path.{_≡_}
-use mathlib.Core.Bool.{Bool, true, false, cond}
+use mathlib.Core.Bool.{cond}
 use mathlib.Core.List.{List}
-use Prim.Native.Nat.{ℕ, _+_, _≤_}
+use Prim.Native.Nat.{ℕ, zero, suc, _+_, _≤_}
 use lib.ListN.{length}
 use Rattle.paper.specs.Text.{Bytes}
 use Rattle.paper.specs.Limits.{report-size, max-sheet, max-steps}
@@ -68,11 +68,11 @@ verdict-of (Accepted n) = record { answer = 0; number = 0; length = n; line = 0 
 verdict-of (Faulty n) = record { answer = 1; number = 0; length = n; line = 0 }
 verdict-of (Refused number line) = record { answer = 2; number = number; length = 0; line = line }
 
--- the rule as a bool: no third value
-abbrev pub rule-of : Bool → Rule
-rule-of true = House
-rule-of false = Old
+-- the rule by its number over the C interface: 0 alone is the old rule
+unfoldable pub rule-of : ℕ → Rule
+rule-of zero = Old
+rule-of (suc n) = House
 
-pub record Exported (house : Bool) (sheet : Bytes) (before after : Lent) (r : Verdict) : Type 0 where
-  pub verdict-is : r ≡ verdict-of ((outcome (rule-of house) sheet before) .answer)
-  pub lent-is : after ≡ (outcome (rule-of house) sheet before) .lent
+pub record Exported (rule : ℕ) (sheet : Bytes) (before after : Lent) (r : Verdict) : Type 0 where
+  pub verdict-is : r ≡ verdict-of ((outcome (rule-of rule) sheet before) .answer)
+  pub lent-is : after ≡ (outcome (rule-of rule) sheet before) .lent

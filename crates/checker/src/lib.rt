@@ -150,24 +150,25 @@ fn verdict_of(said: Answer) -> Verdict
     }
 }
 
-fn rule_of(house: bool) -> Rule
-    ensures { λ r. ⌜ r ≡ rule-of house ⌝ }
+// The rule by its number over the C interface: 0 is the old rule, and every other number the house rule.
+fn rule_of(number: u64) -> Rule
+    ensures { λ r. ⌜ r ≡ rule-of number ⌝ }
 {
-    if house { Rule::House } else { Rule::Old }
+    if number == 0 { Rule::Old } else { Rule::House }
 }
 
-// `check` for C and Rust: the house rule where `house` is true, else the old rule.
+// `check` for C and Rust: under the old rule where `rule` is 0, else under the house rule.
 #[no_mangle]
 pub extern "C" fn itanropen_check(
-    house: bool,
+    rule: u64,
     sheet: &[u8],
     report: &mut [u8],
     words: &mut [u16],
     queue: &mut [u8],
 ) -> Verdict
-    ensures { λ r. ⌜ Exported house (now (sheet .entry)) (lent (now (report .entry)) (now (words .entry)) (now (queue .entry))) (lent (now (report .exit)) (now (words .exit)) (now (queue .exit))) r ⌝ }
+    ensures { λ r. ⌜ Exported rule (now (sheet .entry)) (lent (now (report .entry)) (now (words .entry)) (now (queue .entry))) (lent (now (report .exit)) (now (words .exit)) (now (queue .exit))) r ⌝ }
 {
-    let rule = rule_of(house);
-    let said = check(rule, sheet, report, words, queue);
+    let chosen = rule_of(rule);
+    let said = check(chosen, sheet, report, words, queue);
     verdict_of(said)
 }
