@@ -15,6 +15,7 @@ use Rattle.paper.specs.Answer.{Said, said-of, said-after, answer, Lent, too-sho
 use Rattle.paper.specs.declared.Rule.{Rule}
 use Rattle.paper.specs.declared.Rule.the-variants.{Old, House}
 use Rattle.paper.specs.declared.Answer.{Answer}
+use Rattle.paper.specs.declared.Refusal.{Refusal}
 use Rattle.paper.specs.declared.Answer.the-variants.{Refused}
 use Rattle.layout.specs.Layout.{state-at}
 use Rattle.walks.specs.Reading.{read-few}
@@ -77,16 +78,16 @@ loads-sheet {sheet} l e = go (read sheet) refl (sym (l .answer) ∙ e)
   where
     go : (o : Reading) → read sheet ≡ o → loading-of o ≡ loading.Loaded → (S : Sheet) × (read sheet ≡ loaded S)
     go (loaded S) h f = (S, h)
-    go (refused number line) h f = let z : _≡_ {A = ℕ} 0 1 = cc in absurd (omega arith)
+    go (refused refusal) h f = let z : _≡_ {A = ℕ} 0 1 = cc in absurd (omega arith)
 
-pub refuses-sheet : {sheet : Bytes} {before after : List ℕ} {r : Loading.Loading} {number line : ℕ} → Load sheet before after r → r ≡ loading.Refused number line
-    → read sheet ≡ refused number line
+pub refuses-sheet : {sheet : Bytes} {before after : List ℕ} {r : Loading.Loading} {refusal : Refusal} → Load sheet before after r → r ≡ loading.Refused refusal
+    → read sheet ≡ refused refusal
 unfolding loading-of
-refuses-sheet {sheet} {number} {line} l e = go (read sheet) refl (sym (l .answer) ∙ e)
+refuses-sheet {sheet} {refusal} l e = go (read sheet) refl (sym (l .answer) ∙ e)
   where
-    go : (o : Reading) → read sheet ≡ o → loading-of o ≡ loading.Refused number line → read sheet ≡ refused number line
+    go : (o : Reading) → read sheet ≡ o → loading-of o ≡ loading.Refused refusal → read sheet ≡ refused refusal
     go (loaded S) h f = let z : _≡_ {A = ℕ} 0 1 = cc in absurd (omega arith)
-    go (refused n l) h f = h ∙ (cc)
+    go (refused other) h f = h ∙ (cc)
 
 module _ {sheet : Bytes} {before after : List ℕ} {r : Loading.Loading} (l : Load sheet before after r) where
   module _ (e : r ≡ loading.Loaded) where
@@ -105,13 +106,13 @@ module _ {sheet : Bytes} {before after : List ℕ} {r : Loading.Loading} (l : Lo
     said-of-loaded rule = ap (λ (S : Sheet). said-of rule (faults rule S)) is-sheet ∙ sym (ap (said-after rule) (loads-sheet l e .1))
 
   -- a refusal is said as it is
-  pub refused-answer : (rule : Rule) {report words queue : List ℕ} {number line : ℕ} → r ≡ loading.Refused number line → length after ≡ length words
-      → Answered (answer rule sheet) report words queue report after queue (Refused number line)
+  pub refused-answer : (rule : Rule) {report words queue : List ℕ} {refusal : Refusal} → r ≡ loading.Refused refusal → length after ≡ length words
+      → Answered (answer rule sheet) report words queue report after queue (Refused refusal)
   unfolding answer said-after answer-of report-of
-  refused-answer rule {report} {words} {queue} {number} {line} e w =
-      let h : read sheet ≡ refused number line = refuses-sheet l e in
-      let b = read-bounded sheet number line h in
-      rw h (record { answer-is = refl; report-is = refl; same-words = w; same-queue = refl; within = (b .most, omega arith) })
+  refused-answer rule {report} {words} {queue} {refusal} e w =
+      let h : read sheet ≡ refused refusal = refuses-sheet l e in
+      let b = read-bounded sheet refusal h in
+      rw h (record { answer-is = refl; report-is = refl; same-words = w; same-queue = refl; within = (b .most, omega (arith, b .inside)) })
 
 -- no step lacks an allocation
 pub nothing-missing : {words : List ℕ} {r : Missing} → MissingOf words r → r ≡ Nothing → missing-allocations (sheet-of words) ≡ []
@@ -130,7 +131,7 @@ answered-from {report} {r} a e w = record {
 }
 
 -- refusal 1 changes nothing
-pub turned-short : (rule : Rule) (sheet : Bytes) (before : Lent) → too-short before ≡ true → Checked rule sheet before before (Refused 1 0)
+pub turned-short : (rule : Rule) (sheet : Bytes) (before : Lent) → too-short before ≡ true → Checked rule sheet before before (Refused (record { number = 1; line = 0 }))
 unfolding outcome
 turned-short rule sheet before e = record { whole = rw e; within = (omega arith, omega arith) }
 

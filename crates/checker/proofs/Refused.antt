@@ -1,6 +1,6 @@
 -- A refusal that reading gives has a number from 2 to 9, and a line that is at most one behind the last: each line is at least one
 -- byte of the sheet.
-use mathlib.Core.Path.{_≡_, refl}
+use mathlib.Core.Path.{_≡_, refl, subst}
 use mathlib.Core.Bool.{Bool, true, false, cond, _||_}
 use mathlib.Core.List.{List, [], _∷_}
 use mathlib.Core.Option.{Option, none, some}
@@ -13,14 +13,15 @@ use Rattle.paper.specs.Text.{Bytes, line-feed, fields, onto-first, parts, lines
 use Rattle.paper.specs.Sheet.{Sheet}
 use Rattle.paper.specs.Limits.{max-sheet}
 use Rattle.paper.specs.Refusals.{Record, record-of, empty, Condition, first-holding, conditions, loaded, refused, Lined, good, bad, judged, read-record, read-line, read-end, carry-on, read-lines, no-text, read}
+use Rattle.paper.specs.declared.Refusal.{Refusal}
 
 -- the numbers that a refusal can have, and its line, where reading goes on from `line` with n lines
-pub record Bounded (line n number at : ℕ) : Type 0 where
-  pub least : 2 ≤ number
-  pub most : number ≤ 9
-  pub inside : at ≤ line + n
+pub record Bounded (line n : ℕ) (refusal : Refusal) : Type 0 where
+  pub least : 2 ≤ refusal .number
+  pub most : refusal .number ≤ 9
+  pub inside : refusal .line ≤ line + n
 
-apart : {Q : Type 0} {number line : ℕ} {S : Sheet} → loaded S ≡ refused number line → Q
+apart : {Q : Type 0} {refusal : Refusal} {S : Sheet} → loaded S ≡ refused refusal → Q
 apart e = let z : _≡_ {A = ℕ} 0 1 = cc in absurd (omega arith)
 
 -- there are at most as many lines as bytes
@@ -70,41 +71,40 @@ line-numbered so-far line n e = at (record-of (fields line)) e
     at none f = let z : 3 ≡ n = cc in (omega arith, omega arith)
     at (some r) f = met r (first-holding (conditions so-far r)) refl f
 
-refused-is : {n k l m : ℕ} → refused n l ≡ refused k m → (n ≡ k) × (l ≡ m)
-refused-is e = (cc, cc)
+bounded-as : {line n : ℕ} {r refusal : Refusal} → Bounded line n r → refused r ≡ refused refusal → Bounded line n refusal
+bounded-as {line} {n} {r} {refusal} b e = let z : r ≡ refusal = cc in subst (Bounded line n) z b
 
-lines-bounded : (ls : List Bytes) (line : ℕ) (so-far : Option Sheet) (n l : ℕ) → read-lines line so-far ls ≡ refused n l → Bounded line (length ls) n l
+lines-bounded : (ls : List Bytes) (line : ℕ) (so-far : Option Sheet) (r : Refusal) → read-lines line so-far ls ≡ refused r → Bounded line (length ls) r
 unfolding read-lines read-end carry-on
-lines-bounded [] line none n l e = let p = refused-is e in record { least = omega arith; most = omega arith; inside = omega arith }
-lines-bounded [] line (some S) n l e = go (ltb (length (S .body)) (S .blocks)) e
+lines-bounded [] line none r e = bounded-as (record { least = omega arith; most = omega arith; inside = omega arith }) e
+lines-bounded [] line (some S) r e = go (ltb (length (S .body)) (S .blocks)) e
   where
-    go : (b : Bool) → cond b (refused 4 line) (loaded S) ≡ refused n l → Bounded line 0 n l
-    go true f = let p = refused-is f in record { least = omega arith; most = omega arith; inside = omega arith }
+    go : (b : Bool) → cond b (refused (record { number = 4; line = line })) (loaded S) ≡ refused r → Bounded line 0 r
+    go true f = bounded-as (record { least = omega arith; most = omega arith; inside = omega arith }) f
     go false f = apart f
-lines-bounded (x ∷ ls) line so-far n l e = at (read-line so-far x) refl e (λ R. lines-bounded ls (suc line) (some R) n l)
+lines-bounded (x ∷ ls) line so-far r e = at (read-line so-far x) refl e (λ R. lines-bounded ls (suc line) (some R) r)
   where
-    at : (o : Lined) → read-line so-far x ≡ o → carry-on line o (λ R. read-lines (suc line) (some R) ls) ≡ refused n l
-        → ((R : Sheet) → read-lines (suc line) (some R) ls ≡ refused n l → Bounded (suc line) (length ls) n l) → Bounded line (suc (length ls)) n l
-    at (good R) h f rec = let b = rec R f in record { least = b .least; most = b .most; inside = omega arith }
+    at : (o : Lined) → read-line so-far x ≡ o → carry-on line o (λ R. read-lines (suc line) (some R) ls) ≡ refused r
+        → ((R : Sheet) → read-lines (suc line) (some R) ls ≡ refused r → Bounded (suc line) (length ls) r) → Bounded line (suc (length ls)) r
+    at (good R) h f rec = let b = rec R f in record { least = b .least; most = b .most; inside = omega (arith, b .inside) }
     at (bad k) h f rec =
-        let p = refused-is f in
         let q = line-numbered so-far x k h in
-        record { least = omega arith; most = omega arith; inside = omega arith }
+        bounded-as (record { least = q .0; most = q .1; inside = omega arith }) f
 
-pub read-bounded : (sheet : Bytes) (n l : ℕ) → read sheet ≡ refused n l → Bounded 1 max-sheet n l
+pub read-bounded : (sheet : Bytes) (r : Refusal) → read sheet ≡ refused r → Bounded 1 max-sheet r
 unfolding read no-text
-read-bounded sheet n l e = go (empty sheet) (ltb max-sheet (length sheet)) refl _ e
+read-bounded sheet r e = go (empty sheet) (ltb max-sheet (length sheet)) refl _ e
   where
-    open-line : length sheet ≤ max-sheet → read-lines 1 none (lines sheet) ≡ refused n l → Bounded 1 max-sheet n l
+    open-line : length sheet ≤ max-sheet → read-lines 1 none (lines sheet) ≡ refused r → Bounded 1 max-sheet r
     open-line h f =
-        let b = lines-bounded (lines sheet) 1 none n l f in
-        record { least = b .least; most = b .most; inside = omega (arith, lines-length sheet) }
+        let b = lines-bounded (lines sheet) 1 none r f in
+        record { least = b .least; most = b .most; inside = omega (arith, b .inside, lines-length sheet) }
 
-    two : refused 2 0 ≡ refused n l → Bounded 1 max-sheet n l
-    two f = let p = refused-is f in record { least = omega arith; most = omega arith; inside = omega arith }
+    two : refused (record { number = 2; line = 0 }) ≡ refused r → Bounded 1 max-sheet r
+    two f = bounded-as (record { least = omega arith; most = omega arith; inside = omega arith }) f
 
-    go : (a b : Bool) → ltb max-sheet (length sheet) ≡ b → (c : Bool) → cond (a || (b || c)) (refused 2 0) (read-lines 1 none (lines sheet)) ≡ refused n l
-        → Bounded 1 max-sheet n l
+    go : (a b : Bool) → ltb max-sheet (length sheet) ≡ b → (c : Bool) → cond (a || (b || c)) (refused (record { number = 2; line = 0 })) (read-lines 1 none (lines sheet)) ≡ refused r
+        → Bounded 1 max-sheet r
     go true b h c f = two f
     go false true h c f = two f
     go false false h true f = two f

@@ -15,6 +15,7 @@ use Rattle.paper.specs.Refusals.{Reading, loaded, refused, read}
 use Rattle.paper.specs.Report.{Line, behind-tabs, faults}
 use Rattle.paper.specs.Answer.{Said, accepted, faulty, turned-away, said-of, said-after, answer, letter-X, written, Lent, too-short, laid, zeros, answer-of, report-of, Outcome, outcome-of, outcome}
 use Rattle.paper.specs.declared.Rule.{Rule}
+use Rattle.paper.specs.declared.Refusal.{Refusal}
 use Rattle.paper.specs.declared.Answer.{Answer}
 use Rattle.paper.specs.declared.Answer.the-variants.{Accepted, Faulty, Refused}
 use Rattle.report.specs.Laid.{wrote-laid}
@@ -23,18 +24,25 @@ use Rattle.checker.specs.Checked.{lent, refusal-text, Checked, TextOutco
 use Rattle.checker.proofs.Refused.{read-bounded}
 
 -- `X number line`, as it is written part by part
-pub refusal-spelled : (number line : ℕ) → ((((letter-X ∷ []) ++ (tab ∷ digits number)) ++ (tab ∷ digits line)) ++ (line-feed ∷ [])) ≡ refusal-text number line
-unfolding refusal-text written behind-tabs
-refusal-spelled number line = ap (λ (t : Bytes). letter-X ∷ tab ∷ t) (append-assoc (digits number) (tab ∷ digits line) (line-feed ∷ []))
+module _ (refusal : Refusal) where
+  refusal-spelled : ((((letter-X ∷ []) ++ (tab ∷ digits (refusal .number))) ++ (tab ∷ digits (refusal .line))) ++ (line-feed ∷ [])) ≡ refusal-text refusal
+  unfolding refusal-text written behind-tabs
+  refusal-spelled = ap (λ (t : Bytes). letter-X ∷ tab ∷ t) (append-assoc (digits (refusal .number)) (tab ∷ digits (refusal .line)) (line-feed ∷ []))
 
-pub refusal-wrote : {l l′ : List ℕ} {r : ℕ} (number line : ℕ) → Wrote l 0 ((((letter-X ∷ []) ++ (tab ∷ digits number)) ++ (tab ∷ digits line)) ++ (line-feed ∷ [])) l′ r
-    → Wrote l 0 (refusal-text number line) l′ r
-refusal-wrote {l} {l′} {r} number line w = subst (λ (t : Bytes). Wrote l 0 t l′ r) (refusal-spelled number line) w
+  pub refusal-wrote : {l l′ : List ℕ} {r : ℕ} → Wrote l 0 ((((letter-X ∷ []) ++ (tab ∷ digits (refusal .number))) ++ (tab ∷ digits (refusal .line))) ++ (line-feed ∷ [])) l′ r
+      → Wrote l 0 (refusal-text refusal) l′ r
+  refusal-wrote {l} {l′} {r} w = subst (λ (t : Bytes). Wrote l 0 t l′ r) refusal-spelled w
 
-refusal-length : (number line : ℕ) → length (refusal-text number line) ≤ 14
-unfolding refusal-text written behind-tabs
-refusal-length number line =
-    omega (arith, length-append (digits number) (tab ∷ (digits line ++ (line-feed ∷ []))), length-append (digits line) (line-feed ∷ []), length-digits number, length-digits line)
+  refusal-length : length (refusal-text refusal) ≤ 14
+  unfolding refusal-text written behind-tabs
+  refusal-length =
+      omega (
+        arith,
+        length-append (digits (refusal .number)) (tab ∷ (digits (refusal .line) ++ (line-feed ∷ []))),
+        length-append (digits (refusal .line)) (line-feed ∷ []),
+        length-digits (refusal .number),
+        length-digits (refusal .line),
+      )
 
 pub laid-length : (text report : List ℕ) → length text ≤ length (laid text report)
 unfolding laid
@@ -61,17 +69,17 @@ text-left-by {text} {before} {after} {n} c long =
     rw (r, k) (take-at text _ _ refl)
 
 -- bytes are never refused by number 1
-said-number : (rule : Rule) (sheet : Bytes) (number line : ℕ) → answer rule sheet ≡ turned-away number line → 2 ≤ number
+said-number : (rule : Rule) (sheet : Bytes) (refusal : Refusal) → answer rule sheet ≡ turned-away refusal → 2 ≤ refusal .number
 unfolding answer said-after said-of
-said-number rule sheet number line e = at (read sheet) refl e
+said-number rule sheet refusal e = at (read sheet) refl e
   where
-    no-report : (ls : List Line) → said-of rule ls ≡ turned-away number line → 2 ≤ number
+    no-report : (ls : List Line) → said-of rule ls ≡ turned-away refusal → 2 ≤ refusal .number
     no-report [] f = let z : _≡_ {A = ℕ} 0 1 = cc in absurd (omega arith)
     no-report (l ∷ ls) f = let z : _≡_ {A = ℕ} 0 1 = cc in absurd (omega arith)
 
-    at : (o : Reading) → read sheet ≡ o → said-after rule o ≡ turned-away number line → 2 ≤ number
+    at : (o : Reading) → read sheet ≡ o → said-after rule o ≡ turned-away refusal → 2 ≤ refusal .number
     at (loaded S) h f = no-report (faults rule S) f
-    at (refused n l) h f = let z : n ≡ number = cc in subst (λ (m : ℕ). 2 ≤ m) z (read-bounded sheet n l h .least)
+    at (refused r) h f = let z : r ≡ refusal = cc in subst (λ (q : Refusal). 2 ≤ q .number) z (read-bounded sheet r h .least)
 
 module _ {rule : Rule} {sheet : Bytes} {before after : Lent} {r : Answer} (c : Checked rule sheet before after r) where
   -- the answer and the buffers of the outcome
@@ -83,38 +91,38 @@ module _ {rule : Rule} {sheet : Bytes} {before after : Lent} {r : Answer} (c : C
   unfolding outcome outcome-of answer-of report-of written
   texted n e = at (too-short before) refl (answer rule sheet) refl
     where
-      not-refused : {Q : Type 0} {k l : ℕ} → r ≡ Refused k l → Q
+      not-refused : {Q : Type 0} {refusal : Refusal} → r ≡ Refused refusal → Q
       not-refused f = ⊎-elim (λ h. let z : _≡_ {A = ℕ} 0 1 = cc in absurd (omega arith)) (λ h. let z : _≡_ {A = ℕ} 0 1 = cc in absurd (omega arith)) e
 
       at : (b : Bool) → too-short before ≡ b → (said : Said) → answer rule sheet ≡ said → Stated (written (answer rule sheet)) before after n
-      at true s said t = not-refused (answer-told (record { answer = Refused 1 0; lent = before }) (rw s) .0)
+      at true s said t = not-refused (answer-told (record { answer = Refused (record { number = 1; line = 0 }); lent = before }) (rw s) .0)
       at false s (accepted text) t =
           let p = answer-told (outcome-of (accepted text) before) (rw (s, t)) in
           rw t (text-left {text = text} s (⊎-elim (λ h. (cc)) (λ h. let z : _≡_ {A = ℕ} 0 1 = cc in absurd (omega arith)) e) (p .1))
       at false s (faulty text) t =
           let p = answer-told (outcome-of (faulty text) before) (rw (s, t)) in
           rw t (text-left {text = text} s (⊎-elim (λ h. let z : _≡_ {A = ℕ} 0 1 = cc in absurd (omega arith)) (λ h. (cc)) e) (p .1))
-      at false s (turned-away k l) t = not-refused (answer-told (outcome-of (turned-away k l) before) (rw (s, t)) .0)
+      at false s (turned-away refusal) t = not-refused (answer-told (outcome-of (turned-away refusal) before) (rw (s, t)) .0)
 
   -- refusal 1 changes nothing, and no other has its number
-  pub texted-short : (line : ℕ) → r ≡ Refused 1 line → Stated (written (answer rule sheet)) before after 0
+  pub texted-short : (refusal : Refusal) → r ≡ Refused refusal → refusal .number ≡ 1 → Stated (written (answer rule sheet)) before after 0
   unfolding outcome outcome-of answer-of report-of
-  texted-short line e = at (too-short before) refl (answer rule sheet) refl
+  texted-short refusal e one = at (too-short before) refl (answer rule sheet) refl
     where
       at : (b : Bool) → too-short before ≡ b → (said : Said) → answer rule sheet ≡ said → Stated (written (answer rule sheet)) before after 0
-      at true s said t = let p = answer-told (record { answer = Refused 1 0; lent = before }) (rw s) in rw (p .1) (short-outcome (written (answer rule sheet)) before s)
+      at true s said t = let p = answer-told (record { answer = Refused (record { number = 1; line = 0 }); lent = before }) (rw s) in rw (p .1) (short-outcome (written (answer rule sheet)) before s)
       at false s (accepted text) t = let p = answer-told (outcome-of (accepted text) before) (rw (s, t)) .0 in let z : _≡_ {A = ℕ} 0 1 = cc in absurd (omega arith)
       at false s (faulty text) t = let p = answer-told (outcome-of (faulty text) before) (rw (s, t)) .0 in let z : _≡_ {A = ℕ} 0 1 = cc in absurd (omega arith)
-      at false s (turned-away k l) t =
-          let p = answer-told (outcome-of (turned-away k l) before) (rw (s, t)) .0 in
-          let z : k ≡ 1 = cc in
-          absurd (omega (arith, said-number rule sheet k l t))
+      at false s (turned-away q) t =
+          let p = answer-told (outcome-of (turned-away q) before) (rw (s, t)) .0 in
+          let z : q ≡ refusal = cc in
+          absurd (omega (arith, said-number rule sheet q t, ap (λ (x : Refusal). x .number) z))
 
   -- any other refusal leaves the report as it was, and there is room for its line
-  module _ (number line : ℕ) (e : r ≡ Refused number line) (other : number ≡ 1 → ⊥) where
+  module _ (refusal : Refusal) (e : r ≡ Refused refusal) (other : refusal .number ≡ 1 → ⊥) where
     pub record Turned : Type 0 where
       pub long : too-short before ≡ false
-      pub said : answer rule sheet ≡ turned-away number line
+      pub said : answer rule sheet ≡ turned-away refusal
       pub left : after ≡ record { report = before .report; words = zeros (before .words); queue = zeros (before .queue) }
 
     pub turned : Turned
@@ -123,29 +131,28 @@ module _ {rule : Rule} {sheet : Bytes} {before after : Lent} {r : Answer} (c : C
       where
         at : (b : Bool) → too-short before ≡ b → (said : Said) → answer rule sheet ≡ said → Turned
         at true s said t =
-            let p = answer-told (record { answer = Refused 1 0; lent = before }) (rw s) .0 in
-            let z : number ≡ 1 = cc in
-            absurd (other z)
+            let p = answer-told (record { answer = Refused (record { number = 1; line = 0 }); lent = before }) (rw s) .0 in
+            let z : _≡_ {A = Refusal} refusal (record { number = 1; line = 0 }) = cc in
+            absurd (other (ap (λ (x : Refusal). x .number) z))
         at false s (accepted text) t = let p = answer-told (outcome-of (accepted text) before) (rw (s, t)) .0 in let z : _≡_ {A = ℕ} 0 1 = cc in absurd (omega arith)
         at false s (faulty text) t = let p = answer-told (outcome-of (faulty text) before) (rw (s, t)) .0 in let z : _≡_ {A = ℕ} 0 1 = cc in absurd (omega arith)
-        at false s (turned-away k l) t =
-            let p = answer-told (outcome-of (turned-away k l) before) (rw (s, t)) in
+        at false s (turned-away x) t =
+            let p = answer-told (outcome-of (turned-away x) before) (rw (s, t)) in
             let q = p .0 in
-            let zk : k ≡ number = cc in
-            let zl : l ≡ line = cc in
-            record { long = s; said = t ∙ ap (λ (n : ℕ). turned-away n l) zk ∙ ap (turned-away number) zl; left = p .1 }
+            let z : x ≡ refusal = cc in
+            record { long = s; said = t ∙ ap turned-away z; left = p .1 }
 
     pub room : report-size ≤ length (after .report)
     room = rw (turned .left) (long (before .report) (before .words) (before .queue) (turned .long) .0)
 
-    pub texted-refusal : {report : List ℕ} {n : ℕ} → Wrote (after .report) 0 (refusal-text number line) report n
+    pub texted-refusal : {report : List ℕ} {n : ℕ} → Wrote (after .report) 0 (refusal-text refusal) report n
         → Stated (written (answer rule sheet)) before (lent report (after .words) (after .queue)) n
     unfolding refusal-text
     texted-refusal {report} {n} w =
         let t = turned in
-        let short : length (refusal-text number line) ≤ 14 = refusal-length number line in
+        let short : length (refusal-text refusal) ≤ 14 = refusal-length refusal in
         let big = room in
-        let long : n ≡ length (refusal-text number line) = omega (arith, w .next) in
-        let left : lent report (after .words) (after .queue) ≡ record { report = laid (refusal-text number line) (before .report); words = zeros (before .words); queue = zeros (before .queue) } =
+        let long : n ≡ length (refusal-text refusal) = omega (arith, w .next) in
+        let left : lent report (after .words) (after .queue) ≡ record { report = laid (refusal-text refusal) (before .report); words = zeros (before .words); queue = zeros (before .queue) } =
         cc (wrote-laid w (omega (arith, w .next)), ap (λ (x : Lent). x .report) (t .left), ap (λ (x : Lent). x .words) (t .left), ap (λ (x : Lent). x .queue) (t .left)) in
-        rw (t .said) (text-left {text = refusal-text number line} (t .long) long left)
+        rw (t .said) (text-left {text = refusal-text refusal} (t .long) long left)

@@ -55,10 +55,10 @@ outcome-accepted rule sheet before n e = at (too-short before) refl (answer rule
     told o f = e ∙ ap (λ (x : Outcome). x .answer) f
 
     at : (b : Bool) → too-short before ≡ b → (said : Said) → answer rule sheet ≡ said → (text : Bytes) × (answer rule sheet ≡ accepted text)
-    at true s said t = let p = told (record { answer = Refused 1 0; lent = before }) (rw s) in let z : _≡_ {A = ℕ} 0 1 = cc in absurd (omega arith)
+    at true s said t = let p = told (record { answer = Refused (record { number = 1; line = 0 }); lent = before }) (rw s) in let z : _≡_ {A = ℕ} 0 1 = cc in absurd (omega arith)
     at false s (accepted text) t = (text, t)
     at false s (faulty text) t = let p = told (outcome-of (faulty text) before) (rw (s, t)) in let z : _≡_ {A = ℕ} 0 1 = cc in absurd (omega arith)
-    at false s (turned-away k l) t = let p = told (outcome-of (turned-away k l) before) (rw (s, t)) in let z : _≡_ {A = ℕ} 0 1 = cc in absurd (omega arith)
+    at false s (turned-away refusal) t = let p = told (outcome-of (turned-away refusal) before) (rw (s, t)) in let z : _≡_ {A = ℕ} 0 1 = cc in absurd (omega arith)
 
 accepted-outcome : (sheet : Bytes) (before : Lent) (n : ℕ) → Accepted n ≡ (outcome House sheet before) .answer → AcceptedBytes sheet
 accepted-outcome sheet before n e = let s = outcome-accepted House sheet before n e in accepted-bytes sheet (s .0) (s .1)

@@ -11,6 +11,7 @@ use Rattle.paper.specs.Answer.{Said, turned-away, written, Lent, too-short, lai
 use Rattle.sheet.specs.Loaded.{sheet-of}
 use Rattle.paper.specs.declared.Rule.{Rule}
 use Rattle.paper.specs.declared.Rule.the-variants.{Old, House}
+use Rattle.paper.specs.declared.Refusal.{Refusal}
 use Rattle.paper.specs.declared.Answer.{Answer}
 use Rattle.paper.specs.declared.Answer.the-variants.{Accepted, Faulty, Refused}
 use Rattle.checker.specs.declared.Verdict.{Verdict}
@@ -20,17 +21,20 @@ abbrev pub Few : List ℕ → Type 0
 Few words = step-count ((sheet-of words) .body) ≤ max-steps
 
 -- `X number line`
-unfoldable pub refusal-text : ℕ → ℕ → Bytes
-refusal-text number line = written (turned-away number line)
+unfoldable pub refusal-text : Refusal → Bytes
+refusal-text refusal = written (turned-away refusal)
 
 abbrev pub lent : List ℕ → List ℕ → List ℕ → Lent
 lent report words queue = record { report = report; words = words; queue = queue }
 
--- the numbers of an answer keep their bounds
+-- the numbers of a refusal and of an answer keep their bounds
+abbrev pub RefusalWithin : Refusal → Type 0
+RefusalWithin refusal = (refusal .number ≤ 9) × (refusal .line ≤ max-sheet + 1)
+
 abbrev pub AnswerWithin : Answer → Type 0
 AnswerWithin (Accepted n) = n ≤ report-size
 AnswerWithin (Faulty n) = n ≤ report-size
-AnswerWithin (Refused number line) = (number ≤ 9) × (line ≤ max-sheet + 1)
+AnswerWithin (Refused refusal) = RefusalWithin refusal
 
 -- what is said of a sheet was answered, and stands in the report; the scratch keeps its lengths
 pub record Answered (said : Said) (report words queue report′ words′ queue′ : List ℕ) (r : Answer) : Type 0 where
@@ -66,7 +70,7 @@ pub record Stated (text : Bytes) (before after : Lent) (r : ℕ) : Type 0 where
 unfoldable pub verdict-of : Answer → Verdict
 verdict-of (Accepted n) = record { answer = 0; number = 0; length = n; line = 0 }
 verdict-of (Faulty n) = record { answer = 1; number = 0; length = n; line = 0 }
-verdict-of (Refused number line) = record { answer = 2; number = number; length = 0; line = line }
+verdict-of (Refused refusal) = record { answer = 2; number = refusal .number; length = 0; line = refusal .line }
 
 -- the rule by its number over the C interface: 0 alone is the old rule
 unfoldable pub rule-of : ℕ → Rule

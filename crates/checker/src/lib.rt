@@ -7,13 +7,15 @@ ghost use Rattle.paper.specs.Limits.{report-size, words-size, queue-size};
 ghost use Rattle.paper.specs.Report.{faults};
 ghost use Rattle.paper.specs.Answer as paper-answer;
 ghost use Rattle.sheet.specs.Loaded.{sheet-of, Loaded};
-ghost use Rattle.checker.specs.Checked.{lent, Few, refusal-text, Answered, Checked, Stated, verdict-of, rule-of, Exported};
+ghost use Rattle.checker.specs.Checked.{lent, Few, refusal-text, RefusalWithin, Answered, Checked, Stated, verdict-of, rule-of, Exported};
 use faults::Missing;
 use layout::QUEUE_SIZE;
 use layout::REPORT_SIZE;
 use layout::WORDS_SIZE;
 use paper::Answer;
+use paper::Refusal;
 use paper::Rule;
+use paper::TOO_SHORT;
 use sheet::Loading;
 
 // An answer over the C interface: 0 accepted, 1 faulty, 2 refused; the report's length; the refusal's number and line.
@@ -52,7 +54,7 @@ fn answer(
     let loading = sheet::load(sheet, words);
     match loading {
         Loading::Loaded => write_faults(rule, words, queue, report),
-        Loading::Refused(number, line) => Answer::Refused(number, line),
+        Loading::Refused(refusal) => Answer::Refused(refusal),
     }
 }
 
@@ -81,7 +83,10 @@ pub fn check(
     ensures { λ r. ⌜ Checked rule (now (sheet .entry)) (lent (now (report .entry)) (now (words .entry)) (now (queue .entry))) (lent (now (report .exit)) (now (words .exit)) (now (queue .exit))) r ⌝ }
 {
     if too_short(report, words, queue) {
-        return Answer::Refused(1, 0);
+        return Answer::Refused(Refusal {
+            number: TOO_SHORT,
+            line: 0,
+        });
     }
     let said = answer(rule, sheet, report, words, queue);
     scratch::clear_words(words);
@@ -90,13 +95,13 @@ pub fn check(
 }
 
 // `X number line` at the start of the lent report: its length.
-fn write_refusal(report: &mut [u8], number: u8, line: usize) -> usize
-    requires { ⌜ (number ≤ 9) × (line ≤ 65537) × (report-size ≤ length (now report)) ⌝ }
-    ensures { λ r. ⌜ Wrote (now (report .entry)) 0 (refusal-text number line) (now (report .exit)) r ⌝ }
+fn write_refusal(report: &mut [u8], refusal: Refusal) -> usize
+    requires { ⌜ RefusalWithin refusal × (report-size ≤ length (now report)) ⌝ }
+    ensures { λ r. ⌜ Wrote (now (report .entry)) 0 (refusal-text refusal) (now (report .exit)) r ⌝ }
 {
     let a = fields::write_byte(report, 0, b'X');
-    let b = fields::write_before_number(report, a, b'\t', number as u32);
-    let c = fields::write_before_number(report, b, b'\t', line as u32);
+    let b = fields::write_before_number(report, a, b'\t', refusal.number as u32);
+    let c = fields::write_before_number(report, b, b'\t', refusal.line as u32);
     fields::write_byte(report, c, b'\n')
 }
 
@@ -115,11 +120,11 @@ pub fn answer_text(
     match said {
         Answer::Accepted(length) => length,
         Answer::Faulty(length) => length,
-        Answer::Refused(number, line) => {
-            if number == 1 {
+        Answer::Refused(refusal) => {
+            if refusal.number == TOO_SHORT {
                 0
             } else {
-                write_refusal(report, number, line)
+                write_refusal(report, refusal)
             }
         }
     }
@@ -141,11 +146,11 @@ fn verdict_of(said: Answer) -> Verdict
             length: length,
             line: 0,
         },
-        Answer::Refused(number, line) => Verdict {
+        Answer::Refused(refusal) => Verdict {
             answer: 2,
-            number: number,
+            number: refusal.number,
             length: 0,
-            line: line,
+            line: refusal.line,
         },
     }
 }

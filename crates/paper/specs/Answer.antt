@@ -11,14 +11,15 @@ use Rattle.paper.specs.Limits.{report-size, words-size, queue-size}
 use Rattle.paper.specs.Refusals.{Reading, loaded, refused, read}
 use Rattle.paper.specs.Report.{Line, behind-tabs, faults, report-text}
 use Rattle.paper.specs.declared.Rule.{Rule}
+use Rattle.paper.specs.declared.Refusal.{Refusal}
 use Rattle.paper.specs.declared.Answer.{Answer}
 use Rattle.paper.specs.declared.Answer.the-variants.{Accepted, Faulty, Refused}
 
--- one of three answers: "Accepted and faulty come with the report's length", here with its bytes; refused with a number and a line
+-- one of three answers: "Accepted and faulty come with the report's length", here with its bytes; refused with its number and line
 pub data Said : Type 0 where
   accepted : (text : Bytes) → Said
   faulty : (text : Bytes) → Said
-  turned-away : (number line : ℕ) → Said
+  turned-away : Refusal → Said
 
 -- accepted where there is no fault, else faulty
 unfoldable pub said-of : Rule → List Line → Said
@@ -26,7 +27,7 @@ said-of rule [] = accepted (report-text rule [])
 said-of rule (l ∷ ls) = faulty (report-text rule (l ∷ ls))
 
 unfoldable pub said-after : Rule → Reading → Said
-said-after rule (refused number line) = turned-away number line
+said-after rule (refused refusal) = turned-away refusal
 said-after rule (loaded S) = said-of rule (faults rule S)
 
 -- the answer to a sheet where the lent buffers are large enough
@@ -40,7 +41,7 @@ letter-X = 88
 unfoldable pub written : Said → Bytes
 written (accepted text) = text
 written (faulty text) = text
-written (turned-away number line) = letter-X ∷ behind-tabs (digits number ∷ digits line ∷ [])
+written (turned-away refusal) = letter-X ∷ behind-tabs (digits (refusal .number) ∷ digits (refusal .line) ∷ [])
 
 -- the buffers that are lent to a call
 pub record Lent : Type 0 where
@@ -63,13 +64,13 @@ zeros buffer = replicate (length buffer) 0
 unfoldable pub answer-of : Said → Answer
 answer-of (accepted text) = Accepted (length text)
 answer-of (faulty text) = Faulty (length text)
-answer-of (turned-away number line) = Refused number line
+answer-of (turned-away refusal) = Refused refusal
 
 -- "A refusal leaves the report as it was; otherwise the report text stands at its start"
 unfoldable pub report-of : Said → List ℕ → List ℕ
 report-of (accepted text) report = laid text report
 report-of (faulty text) report = laid text report
-report-of (turned-away number line) report = report
+report-of (turned-away refusal) report = report
 
 -- the answer that is returned, and the buffers afterwards
 pub record Outcome : Type 0 where
@@ -83,4 +84,4 @@ outcome-of said lent =
 
 -- "First 1"; "Refusal 1 changes nothing"
 unfoldable pub outcome : Rule → Bytes → Lent → Outcome
-outcome rule sheet lent = cond (too-short lent) (record { answer = Refused 1 0; lent = lent }) (outcome-of (answer rule sheet) lent)
+outcome rule sheet lent = cond (too-short lent) (record { answer = Refused (record { number = 1; line = 0 }); lent = lent }) (outcome-of (answer rule sheet) lent)

@@ -12,6 +12,7 @@ use Rattle.paper.specs.Text.{Bytes, line-feed, hyphen, lines, fields, nu
 use Rattle.paper.specs.Sheet.{Operand, Step, spill, reload, move, change, operation, safepoint, Block, Sheet, reference-typed}
 use Rattle.paper.specs.Cells.{pick}
 use Rattle.paper.specs.Limits.{max-regs, max-slots, max-vregs, max-blocks, max-succs, max-operands, max-inst, max-steps, max-sheet}
+use Rattle.paper.specs.declared.Refusal.{Refusal}
 
 -- what one line says
 pub data Record : Type 0 where
@@ -329,7 +330,7 @@ add-record S (step-record x) =
 -- what reading a sheet gives
 pub data Reading : Type 0 where
   loaded : Sheet → Reading
-  refused : (number line : ℕ) → Reading
+  refused : Refusal → Reading
 
 -- what one line makes of the sheet so far: refused, by a number, or one record more
 pub data Lined : Type 0 where
@@ -350,13 +351,13 @@ read-line so-far line = read-record so-far (record-of (fields line))
 
 -- "or the sheet ends with too few `B` (line: last + 1)"
 unfoldable pub read-end : ℕ → Option Sheet → Reading
-read-end line none = refused 4 line
-read-end line (some S) = cond (ltb (length (S .body)) (S .blocks)) (refused 4 line) (loaded S)
+read-end line none = refused (record { number = 4; line = line })
+read-end line (some S) = cond (ltb (length (S .body)) (S .blocks)) (refused (record { number = 4; line = line })) (loaded S)
 
 -- a bad line's refusal, or what follows a good one
 unfoldable pub carry-on : ℕ → Lined → (Sheet → Reading) → Reading
 carry-on line (good S) more = more S
-carry-on line (bad number) more = refused number line
+carry-on line (bad number) more = refused (record { number = number; line = line })
 
 -- "then the first bad line"
 unfoldable pub read-lines : ℕ → Option Sheet → List Bytes → Reading
@@ -368,4 +369,4 @@ unfoldable pub no-text : Bytes → Bool
 no-text sheet = empty sheet || (ltb max-sheet (length sheet) || not (eqb (getD sheet (length sheet - 1) 0) line-feed))
 
 unfoldable pub read : Bytes → Reading
-read sheet = cond (no-text sheet) (refused 2 0) (read-lines 1 none (lines sheet))
+read sheet = cond (no-text sheet) (refused (record { number = 2; line = 0 })) (read-lines 1 none (lines sheet))

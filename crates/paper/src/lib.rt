@@ -1,4 +1,4 @@
-// The two choices that document 01 names, as the code passes them.
+// The two choices that document 01 names, its refusals and its answers, as the code passes them.
 
 // The rule is a choice of two, with no third value.
 pub enum Rule {
@@ -6,9 +6,34 @@ pub enum Rule {
     House,
 }
 
-// What is said of a sheet: accepted or faulty, with the report's length; refused, with a number and a line.
+// The numbers of document 01's table of refusals, by the names of paper's conditions.
+pub const TOO_SHORT: u8 = 1;
+
+pub const NO_TEXT: u8 = 2;
+
+pub const ILL_FORMED: u8 = 3;
+
+pub const OUT_OF_PLACE: u8 = 4;
+
+pub const BEYOND_LIMIT: u8 = 5;
+
+pub const OUT_OF_ORDER: u8 = 6;
+
+pub const REAL_ELSEWHERE: u8 = 7;
+
+pub const TYPES_DIFFER: u8 = 8;
+
+pub const STEP_TOO_MANY: u8 = 9;
+
+// Why a sheet is turned away: the refusal's number, and the line that it is given at, 0 where it is of no line.
+pub struct Refusal {
+    pub number: u8,
+    pub line: usize,
+}
+
+// What is said of a sheet: accepted or faulty, with the report's length; or refused.
 pub enum Answer {
     Accepted(usize),
     Faulty(usize),
-    Refused(u8, usize),
+    Refused(Refusal),
 }

@@ -1,8 +1,8 @@
 -- A group of operands judged by what is kept of it: limits, repeats and real names, as document 01 has them of all operands.
 use mathlib.Core.Path.{_≡_, refl, sym, ap, ap₂, _∙_}
-use mathlib.Core.Bool.{Bool, true, false, _&&_, _||_, or-assoc}
+use mathlib.Core.Bool.{Bool, true, false, _&&_, _||_, or-assoc, true≢false}
 use mathlib.Core.List.{List, [], _∷_, map}
-use mathlib.Core.Option.{some}
+use mathlib.Core.Option.{Option, none, some}
 use Prim.Native.Nat.{ℕ, zero, suc, _+_, _-_, _≤_, _<_}
 use native.Mathlib.Decide.{ℕ-discrete}
 use native.Mathlib.Omega.{arith}
@@ -11,16 +11,20 @@ use lib.Dec.{leb, ltb}
 use lib.ListN.{length, getD, take, drop}
 use lib.Seq.{take-all}
 use Rattle.lists.specs.Split.{by-test, by-order, or-left, or-right}
-use Rattle.paper.specs.Text.{name-same}
-use Rattle.paper.specs.Sheet.{Operand, operation}
+use Rattle.paper.specs.Text.{Name, real, virtual, name-same}
+use Rattle.paper.specs.Sheet.{Operand, operation, Sheet}
 use Rattle.paper.specs.Cells.{pick}
-use Rattle.paper.specs.Refusals.{step-record, any, repeats, names, allocated, elsewhere, name-beyond, reg-beyond, operand-beyond, step-beyond, step-out-of-order, beyond-limit, out-of-order, real-elsewhere, types-differ}
+use Rattle.paper.specs.Refusals.{step-record, any, repeats, names, allocated, elsewhere, name-beyond, reg-beyond, operand-beyond, step-beyond, step-out-of-order, beyond-limit, out-of-order, real-elsewhere, types-differ, so-far-of, first-holding}
 use Rattle.records.specs.declared.Counts.{Counts}
+use Rattle.records.specs.declared.Place.{Place}
+use Rattle.records.specs.declared.Judged.{Judged}
+use Rattle.records.specs.declared.Judged.the-variants.{Passes, Breaks}
 use Rattle.records.specs.declared.Operands.{Operands}
-use Rattle.records.specs.Records.{lowest, verdict, name-of-code, register-of-code}
-use Rattle.records.specs.Parts.{counted, operand-of-codes, operands-of-codes, held, Roomy, Kept, group-over, below}
+use Rattle.records.specs.Records.{holding, judged-of, name-of-code, register-of-code, Placed, Counted}
+use Rattle.records.specs.Parts.{counted, operand-of-codes, operands-of-codes, held, Roomy, Kept, group-over, OperationWithin, below}
 use Rattle.records.proofs.LawsOperands.{codes-length, codes-at}
 use Rattle.records.proofs.LawsSearch.{any-past, any-here, any-on}
+use Rattle.records.proofs.LawsTold.{clear-of, Tested}
 
 pub operand-limit : (n r : ℕ) (counts : Counts) {b : Bool} → b ≡ name-beyond (counted counts) (name-of-code n)
     → (b || (ltb r 100000 && leb (counts .regs) r)) ≡ operand-beyond (counted counts) (operand-of-codes n r)
@@ -126,45 +130,108 @@ module _ {us : List Operand} {g : Operands} (k : Kept us g) where
   group-limit test =
       by-order 8 (g .count) (λ p. rw (k .counted, lt-ltb 8 (g .count) p)) λ p. rw (k .counted) (ap (λ t. ltb 8 (g .count) || any test t) (held-all p))
 
--- the number of an operation
+-- limits by the counts
 
-module _ (counts : Counts) (g : Operands) {b : Bool} (e : b ≡ group-over counts g) (f : b ≡ false) where
+pub name-limit : {S : Sheet} {counts : Counts} → Counted S counts → (n : Name) → name-beyond S n ≡ name-beyond (counted counts) n
+unfolding name-beyond
+name-limit h (real n) = rw (h .regs)
+name-limit h (virtual n) = rw (h .vregs)
+
+reg-none : (S T : Sheet) → reg-beyond S none ≡ reg-beyond T none
+unfolding reg-beyond
+reg-none S T = refl
+
+reg-some : (S T : Sheet) (r : ℕ) → S .regs ≡ T .regs → reg-beyond S (some r) ≡ reg-beyond T (some r)
+unfolding reg-beyond
+reg-some S T r e = rw e
+
+operand-limits : {S : Sheet} {counts : Counts} → Counted S counts → (u : Operand) → operand-beyond S u ≡ operand-beyond (counted counts) u
+unfolding operand-beyond
+operand-limits {S} {counts} h u = ap₂ (λ a b. a || b) (name-limit h (u .name)) (reg (u .reg))
+  where
+    reg : (r : Option ℕ) → reg-beyond S r ≡ reg-beyond (counted counts) r
+    reg none = reg-none S (counted counts)
+    reg (some r) = reg-some S (counted counts) r (h .regs)
+
+any-limits : {S : Sheet} {counts : Counts} → Counted S counts → (us : List Operand) → any (operand-beyond S) us ≡ any (operand-beyond (counted counts)) us
+unfolding any
+any-limits h [] = refl
+any-limits h (u ∷ us) = ap₂ (λ a b. a || b) (operand-limits h u) (any-limits h us)
+
+-- an operation
+
+module _ (counts : Counts) (g : Operands) (f : group-over counts g ≡ false) where
   pub group-few : g .count ≤ 8
   unfolding group-over
-  group-few = ltb-false 8 (g .count) (or-left _ _ (sym e ∙ f))
+  group-few = ltb-false 8 (g .count) (or-left _ _ f)
+
+  pub group-within : any (operand-beyond (counted counts)) (held g) ≡ false
+  unfolding group-over
+  group-within = or-right (ltb 8 (g .count)) _ f
 
 -- the tests of inst, uses and defs
 module _ (inst : ℕ) (gu gd : Bool) (b : (ltb 65535 inst || (gu || gd)) ≡ false) where
+  pub inst-pass : inst ≤ 65535
+  inst-pass = ltb-false 65535 inst (or-left _ _ b)
+
   pub uses-pass : gu ≡ false
   uses-pass = or-left gu gd (or-right (ltb 65535 inst) _ b)
 
   pub defs-pass : gd ≡ false
   defs-pass = or-right gu gd (or-right (ltb 65535 inst) _ b)
 
-module _ {us ds : List Operand} {uses defs : Operands} (ku : Kept us uses) (kd : Kept ds defs) (inst : ℕ) (counts : Counts) {gu gd : Bool}
-    (eu : gu ≡ group-over counts uses) (ed : gd ≡ group-over counts defs) where
-  operation-limit : step-beyond (counted counts) (operation inst us ds) ≡ (ltb 65535 inst || (gu || gd))
-  unfolding step-beyond group-over
-  operation-limit =
-      ap (λ t. ltb 65535 inst || t) (sym (or-assoc (ltb 8 (length us)) (any (operand-beyond (counted counts)) us) (ltb 8 (length ds) || any (operand-beyond (counted counts)) ds)))
-      ∙ ap₂ (λ x y. ltb 65535 inst || (x || y)) (group-limit ku (operand-beyond (counted counts)) ∙ sym eu) (group-limit kd (operand-beyond (counted counts)) ∙ sym ed)
+-- an operation that passes is within its limits
+pub unbroken : (counts : Counts) (place : Place) (inst : ℕ) (uses defs : Operands) {gu gd : Bool} (disorder elsewhere differ : Bool) → gu ≡ group-over counts uses
+    → gd ≡ group-over counts defs → (j : Judged) → j ≡ judged-of (first-holding (holding place (ltb 65535 inst || (gu || gd)) disorder elsewhere differ))
+    → OperationWithin counts place inst uses defs j
+unbroken counts place inst uses defs {gu} {gd} disorder elsewhere differ eu ed Passes l =
+    let c = clear-of l refl in
+    record {
+      placed = c .placed;
+      room = c .room;
+      inst-most = inst-pass inst gu gd (c .within);
+      uses-within = sym eu ∙ uses-pass inst gu gd (c .within);
+      defs-within = sym ed ∙ defs-pass inst gu gd (c .within);
+    }
+unbroken counts place inst uses defs disorder elsewhere differ eu ed (Breaks breach) l = tt
 
-  pub operation-beyond : {number : ℕ} → (ltb 65535 inst || (gu || gd)) ≡ true → number ≡ lowest (ltb 65535 inst || (gu || gd)) false false false
-      → number ≡ verdict (counted counts) (some (step-record (operation inst us ds)))
-  unfolding verdict lowest beyond-limit
-  operation-beyond b n = n ∙ rw (b, operation-limit ∙ b)
+module _ {us ds : List Operand} {uses defs : Operands} (ku : Kept us uses) (kd : Kept ds defs) (inst : ℕ) (counts : Counts) {gu gd : Bool}
+    (eu : gu ≡ group-over counts uses) (ed : gd ≡ group-over counts defs) {so : Option Sheet} {place : Place}
+    (p : Placed so (step-record (operation inst us ds)) place) (h : Counted (so-far-of so) counts) where
+  operation-limit : (ltb 65535 inst || (gu || gd)) ≡ beyond-limit (so-far-of so) (step-record (operation inst us ds))
+  unfolding beyond-limit step-beyond group-over
+  operation-limit =
+      let limit : Operand → Bool = operand-beyond (counted counts) in
+      rw (any-limits h us, any-limits h ds)
+      (sym (ap (λ t. ltb 65535 inst || t) (sym (or-assoc (ltb 8 (length us)) (any limit us) (ltb 8 (length ds) || any limit ds)))
+      ∙ ap₂ (λ x y. ltb 65535 inst || (x || y)) (group-limit ku limit ∙ sym eu) (group-limit kd limit ∙ sym ed)))
+
+  -- beyond a limit
+  pub operation-beyond : (ltb 65535 inst || (gu || gd)) ≡ true → Tested so (step-record (operation inst us ds)) place (ltb 65535 inst || (gu || gd)) false false false
+  operation-beyond b = record {
+    placed = p;
+    limit = operation-limit;
+    order = λ z. absurd (true≢false (sym b ∙ z));
+    home = λ z. absurd (true≢false (sym b ∙ z));
+    types = λ z. absurd (true≢false (sym b ∙ z));
+  }
 
   module _ (b : (ltb 65535 inst || (gu || gd)) ≡ false) where
-    pub operation-judged : {number : ℕ} {ru rd rr lu ld : Bool} → ru ≡ repeats ℕ-discrete (below 200000 (take (uses .count) (uses .names)))
+    all-uses : us ≡ held uses
+    all-uses = held-all ku (group-few counts uses (sym eu ∙ uses-pass inst gu gd b))
+
+    all-defs : ds ≡ held defs
+    all-defs = held-all kd (group-few counts defs (sym ed ∙ defs-pass inst gu gd b))
+
+    pub operation-tested : {ru rd rr lu ld : Bool} → ru ≡ repeats ℕ-discrete (below 200000 (take (uses .count) (uses .names)))
         → rd ≡ repeats ℕ-discrete (below 200000 (take (defs .count) (defs .names))) → rr ≡ repeats ℕ-discrete (below 100000 (take (defs .count) (defs .registers)))
         → lu ≡ any (λ u. elsewhere (u .name) (u .reg)) (held uses) → ld ≡ any (λ u. elsewhere (u .name) (u .reg)) (held defs)
-        → number ≡ lowest (ltb 65535 inst || (gu || gd)) (ru || (rd || rr)) (lu || ld) false → number ≡ verdict (counted counts) (some (step-record (operation inst us ds)))
-    unfolding verdict beyond-limit out-of-order step-out-of-order real-elsewhere types-differ
-    operation-judged {number} {ru} {rd} {rr} {lu} {ld} eru erd err elu eld n =
-        let o : (repeats name-same (names us) || (repeats name-same (names ds) || repeats ℕ-discrete (allocated ds))) ≡ (ru || (rd || rr)) =
-        rw (held-all ku (group-few counts uses eu (uses-pass inst gu gd b)), held-all kd (group-few counts defs ed (defs-pass inst gu gd b)), held-names ku, held-names kd, held-registers kd, eru, erd, err)
-        in
-        let l : (any (λ u. elsewhere (u .name) (u .reg)) us || any (λ u. elsewhere (u .name) (u .reg)) ds) ≡ (lu || ld) =
-        rw (held-all ku (group-few counts uses eu (uses-pass inst gu gd b)), held-all kd (group-few counts defs ed (defs-pass inst gu gd b)), elu, eld)
-        in
-        n ∙ rw (operation-limit, o, l)
+        → Tested so (step-record (operation inst us ds)) place (ltb 65535 inst || (gu || gd)) (ru || (rd || rr)) (lu || ld) false
+    unfolding out-of-order step-out-of-order real-elsewhere types-differ
+    operation-tested eru erd err elu eld = record {
+      placed = p;
+      limit = operation-limit;
+      order = λ z. rw (all-uses, all-defs, held-names ku, held-names kd, held-registers kd, eru, erd, err);
+      home = λ z. rw (all-uses, all-defs, elu, eld);
+      types = λ z. refl;
+    }

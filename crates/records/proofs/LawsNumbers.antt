@@ -1,5 +1,5 @@
 -- The numbers of a line: read one by one, and what `F`, `T`, `B` and a step of two numbers make of them.
-use mathlib.Core.Path.{_≡_, refl, sym, ap, _∙_}
+use mathlib.Core.Path.{_≡_, refl, sym, ap, _∙_, subst}
 use mathlib.Core.Bool.{cond}
 use mathlib.Core.List.{List, [], _∷_, _++_, append-nil, append-assoc}
 use mathlib.Core.Option.{Option, none, some, Option·map}
@@ -16,8 +16,12 @@ use Rattle.paper.specs.Sheet.{Step}
 use Rattle.paper.specs.Refusals.{Record, function-record, typed-record, block-record, step-record, Read, next, ended, _>>=_, numbers-of, function-of, typed-of, block-of, two-numbers-of}
 use Rattle.fields.specs.Fields.{field-at, field-end, line-end, fields-behind}
 use Rattle.fields.specs.Cursor.{fields-at, fields-behind-tab}
-use Rattle.records.specs.Records.{Behind, Next}
-use Rattle.records.specs.Parts.{few-numbers, first-values, NumbersRead}
+use Rattle.records.specs.Records.{Behind, Ends, Next}
+use Rattle.records.specs.Parts.{few-numbers, NumbersForm, NumbersRead, exactly, ExactlyForm, ExactlyRead}
+use Rattle.records.specs.declared.Form.{Form}
+use Rattle.records.specs.declared.Form.the-variants as form
+use Rattle.records.specs.declared.Numbers.{Numbers}
+use Rattle.records.specs.declared.Exactly.{Exactly}
 use Rattle.records.proofs.LawsPlaces.{tab-or-feed, none-left, ends-here}
 
 -- one number more
@@ -87,16 +91,16 @@ module _ {s : Bytes} {at count : ℕ} {values : List ℕ} {i : ℕ} (r : Reading
   kept = length-take-le count values (omega (arith, r .few, r .room))
 
   -- no list of numbers, or too long a one
-  none-read : few-numbers (fields-behind s at) ≡ none → NumbersRead s at 9 values i
-  unfolding first-values
-  none-read e = record { says = e; room = r .room; ends = λ h. absurd (omega arith) }
+  none-read : few-numbers (fields-behind s at) ≡ none → NumbersRead s at (record { form = form.Bad; count = count; values = values })
+  none-read e = record { room = r .room; few = r .few; told = e }
 
-  pub reading-bad : (getD s i 0 ≡ line-feed → ⊥) → next number-of (fields-behind s i) ≡ none → NumbersRead s at 9 values i
+  pub reading-bad : (getD s i 0 ≡ line-feed → ⊥) → next number-of (fields-behind s i) ≡ none
+      → NumbersRead s at (record { form = form.Bad; count = count; values = values })
   unfolding few-numbers
   reading-bad f e = none-read (rw (r .whole, numbers-refused (r .behind) f e))
 
   module _ {v after : ℕ} (n : Next number-of s i v after) where
-    pub reading-ninth : count ≡ 8 → NumbersRead s at 9 values i
+    pub reading-ninth : count ≡ 8 → NumbersRead s at (record { form = form.Bad; count = count; values = values })
     unfolding few-numbers
     reading-ninth e = none-read (rw (r .whole, numbers-taken (fields-behind s i) (n .says)) (go (numbers-of (fields-behind s after))))
       where
@@ -118,19 +122,34 @@ module _ {s : Bytes} {at count : ℕ} {values : List ℕ} {i : ℕ} (r : Reading
       line = n .line ∙ r .line;
     }
 
-  pub reading-done : getD s i 0 ≡ line-feed → NumbersRead s at count values i
-  unfolding few-numbers first-values
+  pub reading-done : getD s i 0 ≡ line-feed → NumbersRead s at (record { form = form.Good i; count = count; values = values })
+  unfolding few-numbers
   reading-done f = record {
-    says = rw (r .whole, numbers-ended (r .behind) f, append-nil, kept);
     room = r .room;
-    ends = λ h. ends-here (r .behind) (r .line) f;
+    few = r .few;
+    told = (
+      rw (r .whole, numbers-ended (r .behind) f, append-nil, kept, le-leb count 8 (r .few)),
+      ends-here (r .behind) (r .line) f,
+    );
   }
 
--- so many numbers and no more
+-- the form of what was read
 
-unfoldable pub exactly : ℕ → List Bytes → Option (List ℕ)
-exactly zero fs = ended fs []
-exactly (suc n) fs = next number-of fs >>= λ x. Option·map (λ ns. x .value ∷ ns) (exactly n (x .rest))
+module _ {s : Bytes} {at : ℕ} {r : Numbers} (read : NumbersRead s at r) where
+  pub numbers-good : {after : ℕ} → r .form ≡ form.Good after → (few-numbers (fields-behind s at) ≡ some (take (r .count) (r .values))) × Ends s at after
+  numbers-good e = subst (NumbersForm s at (r .count) (r .values)) e (read .told)
+
+  pub numbers-bad : r .form ≡ form.Bad → few-numbers (fields-behind s at) ≡ none
+  numbers-bad e = subst (NumbersForm s at (r .count) (r .values)) e (read .told)
+
+module _ {s : Bytes} {at n : ℕ} {r : Exactly} (read : ExactlyRead s at n r) where
+  pub exactly-good : {after : ℕ} → r .form ≡ form.Good after → (exactly n (fields-behind s at) ≡ some (take n (r .values))) × Ends s at after
+  exactly-good e = subst (ExactlyForm s at n (r .values)) e (read .told)
+
+  pub exactly-bad : r .form ≡ form.Bad → exactly n (fields-behind s at) ≡ none
+  exactly-bad e = subst (ExactlyForm s at n (r .values)) e (read .told)
+
+-- so many numbers and no more
 
 unfoldable pub sized : ℕ → List ℕ → Option (List ℕ)
 sized n ns = cond (eqb (length ns) n) (some ns) none
@@ -169,25 +188,29 @@ few-enough n fs h = go (numbers-of fs)
         (λ e. rw e)
         λ e. let l : 8 < length ns = leb-false _ _ e in rw (e, ne-eqb (length ns) n (λ k. omega arith))
 
-module _ {s : Bytes} {at count : ℕ} {values : List ℕ} {after : ℕ} (r : NumbersRead s at count values after) (n : ℕ) (h : n ≤ 8) where
-  told : exactly n (fields-behind s at) ≡ (first-values count values >>= sized n)
-  told = exactly-numbers n (fields-behind s at) ∙ few-enough n (fields-behind s at) h ∙ rw (r .says)
+module _ {s : Bytes} {at : ℕ} {r : Numbers} (read : NumbersRead s at r) (n : ℕ) (h : n ≤ 8) where
+  told-few : {o : Option (List ℕ)} → few-numbers (fields-behind s at) ≡ o → exactly n (fields-behind s at) ≡ (o >>= sized n)
+  told-few e = exactly-numbers n (fields-behind s at) ∙ few-enough n (fields-behind s at) h ∙ rw e
 
-  pub exactly-read : count ≡ n → exactly n (fields-behind s at) ≡ some (take n values)
-  unfolding first-values sized
-  exactly-read e =
-      let l : length (take n values) ≡ n = length-take-le n values (omega (arith, r .room)) in
-      told ∙ rw (e, le-leb n 8 h, eq-eqb _ _ l)
+  kept-values : length (take (r .count) (r .values)) ≡ r .count
+  kept-values = length-take-le (r .count) (r .values) (omega (arith, read .room, read .few))
 
-  pub exactly-not : (count ≡ n → ⊥) → exactly n (fields-behind s at) ≡ none
-  unfolding first-values sized
-  exactly-not e =
-      told
-      ∙ by-test (leb count 8)
-      (λ t.
-      let l : length (take count values) ≡ count = length-take-le count values (omega (arith, r .room, leb-true count 8 t)) in
-      rw (t, ne-eqb (length (take count values)) n (λ k. e (sym l ∙ k))))
-      λ t. rw t
+  -- another count
+  pub exactly-not : (r .count ≡ n → ⊥) → ExactlyRead s at n (record { form = form.Bad; values = r .values })
+  unfolding sized
+  exactly-not d = record { room = read .room; told = go (r .form) (read .told) }
+    where
+      go : (f : Form) → NumbersForm s at (r .count) (r .values) f → exactly n (fields-behind s at) ≡ none
+      go (form.Good i) w = told-few (w .0) ∙ rw (ne-eqb (length (take (r .count) (r .values))) n (λ k. d (sym kept-values ∙ k)))
+      go form.Bad w = told-few w
+
+  pub exactly-read : r .count ≡ n → ExactlyRead s at n (record { form = r .form; values = r .values })
+  unfolding sized
+  exactly-read e = record { room = read .room; told = go (r .form) (read .told) }
+    where
+      go : (f : Form) → NumbersForm s at (r .count) (r .values) f → ExactlyForm s at n (r .values) f
+      go (form.Good i) w = (told-few (w .0) ∙ rw (eq-eqb _ _ (kept-values ∙ e), e), w .1)
+      go form.Bad w = told-few w
 
 -- the records of numbers alone
 

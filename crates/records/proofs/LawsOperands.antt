@@ -1,6 +1,5 @@
 -- `n (name reg)*n`: operands read one by one, the first eight kept as numbers.
-use mathlib.Core.Path.{_≡_, refl, sym, ap, _∙_}
-use mathlib.Core.Bool.{true}
+use mathlib.Core.Path.{_≡_, refl, sym, ap, _∙_, subst}
 use mathlib.Core.List.{List, [], _∷_, _++_, append-nil, append-assoc}
 use mathlib.Core.Option.{Option, none, some, Option·map}
 use Prim.Native.Nat.{ℕ, zero, suc, _+_, _-_, _≤_, _<_}
@@ -14,7 +13,10 @@ use Rattle.paper.specs.Sheet.{Operand}
 use Rattle.paper.specs.Refusals.{Read, next, _>>=_, allocation-of, operands-of, counted-operands-of}
 use Rattle.fields.specs.Fields.{line-end, fields-behind}
 use Rattle.records.specs.Records.{Behind, Next}
-use Rattle.records.specs.Parts.{put-first, NextOperand, operand-of-codes, operands-of-codes, held, OperandsRead}
+use Rattle.records.specs.Parts.{put-first, NextOperand, operand-of-codes, operands-of-codes, held, GroupRead, OperandsRead}
+use Rattle.records.specs.declared.Operands.{Operands}
+use Rattle.records.specs.declared.Form.{Form}
+use Rattle.records.specs.declared.Form.the-variants.{Good, Bad}
 
 -- one operand
 
@@ -170,7 +172,7 @@ module _ {s : Bytes} {first n count : ℕ} {names registers : List ℕ} {i : ℕ
       ∙ rw add-one (take-suc-set (operands-of-codes names registers) count (operand-of-codes a b) (omega arith))))
 
   pub grouping-done : {at : ℕ} → n ≤ count → Next number-of s at n first
-      → OperandsRead s at (record { good = true; count = count; names = names; registers = registers; next = i })
+      → GroupRead s at (record { form = Good i; count = count; names = names; registers = registers }) i
   unfolding operands-of put-all counted-operands-of held
   grouping-done p w =
       let z : n - count ≡ 0 = omega arith in
@@ -194,3 +196,11 @@ group-bad w e = rw (w .says, e)
 pub group-uncounted : (s : Bytes) (at : ℕ) → next number-of (fields-behind s at) ≡ none → counted-operands-of (fields-behind s at) ≡ none
 unfolding counted-operands-of
 group-uncounted s at e = rw e
+
+-- the form of what was read
+
+pub group-good : {s : Bytes} {at : ℕ} {g : Operands} {f : Form} {after : ℕ} → OperandsRead s at g f → f ≡ Good after → GroupRead s at g after
+group-good {s} {at} {g} read e = subst (OperandsRead s at g) e read
+
+pub group-ill : (s : Bytes) (at : ℕ) (g : Operands) {f : Form} → OperandsRead s at g f → f ≡ Bad → counted-operands-of (fields-behind s at) ≡ none
+group-ill s at g read e = subst (OperandsRead s at g) e read

@@ -19,7 +19,7 @@ use Rattle.lists.specs.Bits.{no-bits}
 use Rattle.lists.specs.Highest.{set-bits-more}
 use Rattle.records.specs.declared.Listed.{Listed}
 use Rattle.records.specs.Records.{Behind, Next}
-use Rattle.records.specs.Parts.{least-behind, Listing, SlotsRead}
+use Rattle.records.specs.Parts.{least-behind, Listing, SlotsListed}
 use Rattle.records.proofs.LawsPlaces.{ends-here}
 use Rattle.records.proofs.LawsNumbers.{map-same, put-behind, numbers-taken, numbers-refused, numbers-ended}
 
@@ -146,7 +146,7 @@ module _ {s : Bytes} {at slots i : ℕ} {l : Listed} (r : Slotting s at slots i 
     line = n .line ∙ r .line;
   }
 
-  pub slotting-done : getD s i 0 ≡ line-feed → SlotsRead s at slots i l
+  pub slotting-done : getD s i 0 ≡ line-feed → SlotsListed s at slots i l
   slotting-done f = record {
     listed-slots = r .done;
     says = r .whole ∙ rw (numbers-ended (r .behind) f, append-nil);

@@ -4,19 +4,29 @@ use mathlib.Core.Path.{_≡_}
 use mathlib.Core.Bool.{Bool, false, cond, not, _&&_, _||_}
 use mathlib.Core.List.{List, [], _∷_}
 use mathlib.Core.Option.{Option, none, some, Option·map}
-use Prim.Native.Nat.{ℕ, suc, _+_, _-_, _*_, _^_, _≤_, _<_}
+use Prim.Native.Nat.{ℕ, zero, suc, _+_, _-_, _*_, _^_, _≤_, _<_}
 use lib.Dec.{eqb, leb, ltb}
 use lib.ListN.{length, getD, take}
-use Rattle.paper.specs.Text.{Bytes}
+use Rattle.paper.specs.Text.{Bytes, number-of}
 use Rattle.paper.specs.Sheet.{Operand, change, Sheet}
-use Rattle.paper.specs.Limits.{max-succs, max-operands}
-use Rattle.paper.specs.Refusals.{step-record, Read, _>>=_, numbers-of, operands-of, counted-operands-of, change-of, any, ascending, operand-beyond}
+use Rattle.paper.specs.Limits.{max-succs, max-operands, max-inst}
+use Rattle.paper.specs.Refusals.{step-record, Read, _>>=_, next, ended, numbers-of, operands-of, counted-operands-of, change-of, any, ascending, operand-beyond}
 use Rattle.fields.specs.Fields.{line-end, fields-behind}
 use Rattle.lists.specs.Bits.{set-bits}
 use Rattle.records.specs.declared.Counts.{Counts}
+use Rattle.records.specs.declared.Place.{Place}
+use Rattle.records.specs.declared.Judged.{Judged}
+use Rattle.records.specs.declared.Judged.the-variants as judged
+use Rattle.records.specs.declared.Form.{Form}
+use Rattle.records.specs.declared.Form.the-variants as form
+use Rattle.records.specs.declared.Numbers.{Numbers}
+use Rattle.records.specs.declared.Exactly.{Exactly}
 use Rattle.records.specs.declared.Change.{Change}
+use Rattle.records.specs.declared.Change.the-variants as fields-of
 use Rattle.records.specs.declared.Operands.{Operands}
 use Rattle.records.specs.declared.Listed.{Listed}
+use Rattle.records.specs.declared.Slots.{Slots}
+use Rattle.records.specs.declared.Slots.the-variants as slots-of
 use Rattle.records.specs.declared.Pair as Pair
 use Rattle.records.specs.declared.Pair.the-variants as pair
 use Rattle.records.specs.Records.{Behind, Ends, name-of-code, register-of-code}
@@ -32,14 +42,28 @@ counted counts =
 unfoldable pub few-numbers : List Bytes → Option (List ℕ)
 few-numbers fs = numbers-of fs >>= λ ns. cond (leb (length ns) max-succs) (some ns) none
 
--- the first `count` of the values; no list where there are more than 8
-unfoldable pub first-values : ℕ → List ℕ → Option (List ℕ)
-first-values count values = cond (leb count max-succs) (some (take count values)) none
+-- the first `count` of the values are the numbers behind `at`, or there is no list of at most 8
+abbrev pub NumbersForm : Bytes → ℕ → (count : ℕ) → List ℕ → Form → Type 0
+NumbersForm s at count values (form.Good next) = (few-numbers (fields-behind s at) ≡ some (take count values)) × Ends s at next
+NumbersForm s at count values form.Bad = few-numbers (fields-behind s at) ≡ none
 
-pub record NumbersRead (s : Bytes) (at count : ℕ) (values : List ℕ) (after : ℕ) : Type 0 where
-  pub says : few-numbers (fields-behind s at) ≡ first-values count values
-  pub room : length values ≡ max-succs
-  pub ends : count ≤ max-succs → Ends s at after
+pub record NumbersRead (s : Bytes) (at : ℕ) (r : Numbers) : Type 0 where
+  pub room : length (r .values) ≡ max-succs
+  pub few : r .count ≤ max-succs
+  pub told : NumbersForm s at (r .count) (r .values) (r .form)
+
+-- the numbers of the fields, where there are `n` and no more
+unfoldable pub exactly : ℕ → List Bytes → Option (List ℕ)
+exactly zero fs = ended fs []
+exactly (suc n) fs = next number-of fs >>= λ x. Option·map (λ ns. x .value ∷ ns) (exactly n (x .rest))
+
+abbrev pub ExactlyForm : Bytes → ℕ → (n : ℕ) → List ℕ → Form → Type 0
+ExactlyForm s at n values (form.Good next) = (exactly n (fields-behind s at) ≡ some (take n values)) × Ends s at next
+ExactlyForm s at n values form.Bad = exactly n (fields-behind s at) ≡ none
+
+pub record ExactlyRead (s : Bytes) (at n : ℕ) (r : Exactly) : Type 0 where
+  pub room : length (r .values) ≡ max-succs
+  pub told : ExactlyForm s at n (r .values) (r .form)
 
 -- operands
 
@@ -81,16 +105,32 @@ pub record Kept (us : List Operand) (g : Operands) : Type 0 where
   pub room : Roomy g
 
 -- `n (name reg)*n` behind `at`
-pub record OperandsRead (s : Bytes) (at : ℕ) (g : Operands) : Type 0 where
+pub record GroupRead (s : Bytes) (at : ℕ) (g : Operands) (after : ℕ) : Type 0 where
   pub operands : List Operand
-  pub says : counted-operands-of (fields-behind s at) ≡ some (record { value = operands; rest = fields-behind s (g .next) })
+  pub says : counted-operands-of (fields-behind s at) ≡ some (record { value = operands; rest = fields-behind s after })
   pub kept : Kept operands g
-  pub behind : Behind s (g .next)
-  pub line : line-end s (g .next) ≡ line-end s at
+  pub behind : Behind s after
+  pub line : line-end s after ≡ line-end s at
+
+abbrev pub OperandsRead : Bytes → ℕ → Operands → Form → Type 0
+OperandsRead s at g (form.Good next) = GroupRead s at g next
+OperandsRead s at g form.Bad = counted-operands-of (fields-behind s at) ≡ none
 
 -- 5 for a group: more than 8 operands, or one beyond its limit
 unfoldable pub group-over : Counts → Operands → Bool
 group-over counts g = ltb max-operands (g .count) || any (operand-beyond (counted counts)) (held g)
+
+-- an operation that breaks nothing is in place, and each of its groups within its limits
+pub record Unbroken (counts : Counts) (place : Place) (inst : ℕ) (uses defs : Operands) : Type 0 where
+  pub placed : place .misplaced ≡ false
+  pub room : place .surplus ≡ false
+  pub inst-most : inst ≤ max-inst
+  pub uses-within : group-over counts uses ≡ false
+  pub defs-within : group-over counts defs ≡ false
+
+abbrev pub OperationWithin : Counts → Place → ℕ → Operands → Operands → Judged → Type 0
+OperationWithin counts place inst uses defs judged.Passes = Unbroken counts place inst uses defs
+OperationWithin counts place inst uses defs (judged.Breaks breach) = Unit {0}
 
 -- those of the numbers that are below the limit
 unfoldable pub below : ℕ → List ℕ → List ℕ
@@ -138,13 +178,18 @@ pub record Listing (slots : ℕ) (done : List ℕ) (l : Listed) : Type 0 where
   pub bits : l .beyond ≡ false → l .disorder ≡ false → set-bits (l .mask) ≡ done
 
 -- the numbers behind `at` to the line's end, as slots
-pub record SlotsRead (s : Bytes) (at slots after : ℕ) (l : Listed) : Type 0 where
+pub record SlotsListed (s : Bytes) (at slots after : ℕ) (l : Listed) : Type 0 where
   pub listed-slots : List ℕ
   pub says : numbers-of (fields-behind s at) ≡ some listed-slots
   pub listing : Listing slots listed-slots l
   pub ends : Ends s at after
 
+abbrev pub SlotsRead : Bytes → ℕ → ℕ → Slots → Type 0
+SlotsRead s at slots (slots-of.Value l after) = SlotsListed s at slots after l
+SlotsRead s at slots slots-of.Bad = numbers-of (fields-behind s at) ≡ none
+
 -- `C`'s fields behind `at`
-pub record ChangeRead (s : Bytes) (at : ℕ) (r : Change) : Type 0 where
-  pub says : change-of (fields-behind s at) ≡ some (step-record (change (r .inst) (r .slot) (name-of-code (r .from)) (name-of-code (r .to))))
-  pub ends : Ends s at (r .next)
+abbrev pub ChangeRead : Bytes → ℕ → Change → Type 0
+ChangeRead s at (fields-of.Value inst slot from to after) =
+    (change-of (fields-behind s at) ≡ some (step-record (change inst slot (name-of-code from) (name-of-code to)))) × Ends s at after
+ChangeRead s at fields-of.Bad = change-of (fields-behind s at) ≡ none

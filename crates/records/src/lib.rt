@@ -1,23 +1,20 @@
-// One line of a sheet, read and judged by value: the lowest of refusals 3, 5, 6, 7 and 8 that it breaks, or 0 and what it says.
+// One line of a sheet, read and judged by value: what it says, or the lowest of refusals 3 to 9 that it breaks beside the sheet so
+// far.
 ghost use mathlib.Core.Path.{_≡_};
-ghost use mathlib.Core.Bool.{false, true};
 ghost use mathlib.Core.List.{List, [], _∷_, _++_};
-ghost use mathlib.Core.Option.{none, some};
+ghost use mathlib.Core.Option.{Option, none, some};
 ghost use Prim.Native.Nat.{ℕ, _+_, _^_, _≤_, _<_};
 ghost use native.Mathlib.Decide.{ℕ-discrete};
 ghost use lib.Dec.{eqb, leb};
 ghost use lib.ListN.{length, getD, take, drop};
 ghost use Rattle.lists.specs.Over.{over};
-ghost use Rattle.paper.specs.Limits.{max-slots, max-succs, max-operands, max-inst};
-ghost use Rattle.paper.specs.Sheet.{Operand, Step, Sheet, change, operation, safepoint};
-ghost use Rattle.paper.specs.Refusals.{function-record, typed-record, block-record, step-record, function-of, typed-of, block-of, two-numbers-of, change-of, operation-of, safepoint-of, numbers-of, counted-operands-of, any, repeats, elsewhere, operand-beyond, name-beyond, beyond-limit};
-ghost use Rattle.layout.specs.Layout.{typed-words, defs-from, operand-words};
-ghost use Rattle.fields.specs.Fields.{fields-behind};
-ghost use Rattle.lists.specs.Bits.{set-bits};
-ghost use Rattle.cells.specs.Packed.{name-of-word};
-ghost use Rattle.steps.specs.Actions.{operands};
-ghost use Rattle.records.specs.Records.{lowest, verdict, Behind, NumberBehind, NameBehind, AllocationBehind, name-of-code, register-of-code, CountsWithin, Counted, TypedBy, Least, Paired, Told, FunctionWithin, BlockWithin, ChangeWithin, GroupWithin};
-ghost use Rattle.records.specs.Parts.{NumbersRead, operand-of-codes, OperandBehind, held, Roomy, Kept, OperandsRead, group-over, below, name-word, register-word, mark-word, refers, word, Small, Listing, SlotsRead, counted, ChangeRead};
+ghost use Rattle.paper.specs.Limits.{max-slots, max-succs, max-operands};
+ghost use Rattle.paper.specs.Sheet.{Operand, Step, Sheet, operation};
+ghost use Rattle.paper.specs.Refusals.{function-record, typed-record, block-record, step-record, function-of, typed-of, block-of, two-numbers-of, change-of, operation-of, safepoint-of, any, repeats, elsewhere, operand-beyond, name-beyond, beyond-limit, so-far-of, first-holding, conditions};
+ghost use Rattle.layout.specs.Layout.{typed-words, operand-words};
+ghost use Rattle.fields.specs.Fields.{line-end, fields-behind};
+ghost use Rattle.records.specs.Records.{holding, judged-of, told, function-line, typed-line, block-line, pair-line, change-line, operation-line, safepoint-line, Placed, Behind, NumberBehind, NameBehind, AllocationBehind, name-of-code, register-of-code, CountsWithin, Counted, TypedBy, Least, Paired, FunctionClear, TypedClear, BlockClear, PairClear, ChangeClear, OperationClear, SafepointClear};
+ghost use Rattle.records.specs.Parts.{NumbersRead, ExactlyRead, operand-of-codes, OperandBehind, held, Roomy, Kept, OperandsRead, group-over, OperationWithin, below, name-word, register-word, mark-word, refers, word, Small, Listing, SlotsRead, counted, ChangeRead};
 use fields::Allocation;
 use fields::Name;
 use fields::Number;
@@ -25,6 +22,13 @@ use layout::DEFS_FROM;
 use layout::MAX_OPERANDS;
 use layout::MAX_SUCCS;
 use layout::OPERAND_WORDS;
+use paper::BEYOND_LIMIT;
+use paper::ILL_FORMED;
+use paper::OUT_OF_ORDER;
+use paper::OUT_OF_PLACE;
+use paper::REAL_ELSEWHERE;
+use paper::STEP_TOO_MANY;
+use paper::TYPES_DIFFER;
 
 // A name and an allocation are read into one number each: from here on a real name, and no register.
 const REAL: u32 = 100000;
@@ -32,9 +36,6 @@ const REAL: u32 = 100000;
 const NO_ALLOCATION: u32 = 100000;
 // One more than the largest number of a name.
 const NAMES: u32 = 200000;
-
-// The number of a line whose form is bad.
-const ILL_FORMED: u32 = 3;
 
 // The limits of a line's numbers, as it is read.
 const MAX_REGS: u32 = layout::MAX_REGS as u32;
@@ -47,9 +48,6 @@ const MAX_BLOCKS: u32 = layout::MAX_BLOCKS as u32;
 
 const MAX_INST: u32 = layout::MAX_INST as u32;
 
-// The count of numbers that is told where there are more than any line has, or where a field is none.
-const TOO_MANY: usize = MAX_SUCCS + 1;
-
 // `F`'s counts, which the lines behind it are held against.
 pub struct Counts {
     pub regs: u32,
@@ -58,68 +56,106 @@ pub struct Counts {
     pub blocks: u32,
 }
 
-// A line of `F`, `T`, `B`, of two numbers, `C`, `O` or `P`: the number of its refusal, or 0; then its values, which mean nothing
-// where it is refused; and the place of its line feed, which means nothing where its form is bad.
-pub struct FunctionLine {
-    pub number: u32,
-    pub regs: u32,
-    pub slots: u32,
-    pub vregs: u32,
-    pub blocks: u32,
-    pub entry: u32,
-    pub next: usize,
+// What is known of a line by the lines before it: is it out of place, and is it a step too many?
+pub struct Place {
+    pub misplaced: bool,
+    pub surplus: bool,
 }
 
-pub struct TypedLine {
-    pub number: u32,
-    pub n: u32,
-    pub next: usize,
+// What a line breaks: the number of its refusal.
+pub struct Breach {
+    pub number: u8,
+}
+
+// A well-formed line held against the conditions.
+pub enum Judged {
+    Passes,
+    Breaks(Breach),
+}
+
+// A line of `F`, `T`, of two numbers, `C` or `P`: what it says and the place of its line feed, or what it breaks.
+pub enum FunctionLine {
+    Good {
+        regs: u32,
+        slots: u32,
+        vregs: u32,
+        blocks: u32,
+        entry: u32,
+        next: usize,
+    },
+    Bad(Breach),
+}
+
+pub enum TypedLine {
+    Good { n: u32, next: usize },
+    Bad(Breach),
+}
+
+pub enum PairLine {
+    Good { a: u32, b: u32, next: usize },
+    Bad(Breach),
+}
+
+pub enum ChangeLine {
+    Good {
+        inst: u16,
+        slot: u32,
+        from: u16,
+        to: u16,
+        next: usize,
+    },
+    Bad(Breach),
+}
+
+pub enum SafepointLine {
+    Good { inst: u16, mask: u32, next: usize },
+    Bad(Breach),
+}
+
+// A line of `B` or `O`, whose list stands beside it: as much of the list counts as a good line says.
+pub enum BlockTold {
+    Good { count: usize, next: usize },
+    Bad(Breach),
 }
 
 pub struct BlockLine {
-    pub number: u32,
-    pub count: usize,
+    pub told: BlockTold,
     pub succs: [u32; MAX_SUCCS],
-    pub next: usize,
 }
 
-pub struct PairLine {
-    pub number: u32,
-    pub a: u32,
-    pub b: u32,
-    pub next: usize,
-}
-
-pub struct ChangeLine {
-    pub number: u32,
-    pub inst: u16,
-    pub slot: u32,
-    pub from: u16,
-    pub to: u16,
-    pub next: usize,
+pub enum OperationTold {
+    Good {
+        inst: u16,
+        n: usize,
+        m: usize,
+        next: usize,
+    },
+    Bad(Breach),
 }
 
 pub struct OperationLine {
-    pub number: u32,
-    pub inst: u16,
-    pub n: usize,
-    pub m: usize,
+    pub told: OperationTold,
     pub operands: [u16; OPERAND_WORDS],
-    pub next: usize,
 }
 
-pub struct SafepointLine {
-    pub number: u32,
-    pub inst: u16,
-    pub mask: u32,
-    pub next: usize,
+// The form of what was read: good, up to a place, or bad.
+pub enum Form {
+    Good(usize),
+    Bad,
 }
 
-// The numbers that are left of a line: how many, or 9 where a field is no number or a ninth stands there.
+// The numbers that are left of a line. The form is bad where a field is no number or a ninth stands there; the count is then that
+// of the numbers before it.
 pub struct Numbers {
+    pub form: Form,
     pub count: usize,
     pub values: [u32; MAX_SUCCS],
-    pub next: usize,
+}
+
+// As many numbers as a line must have: its form is bad where there are fewer or more.
+pub struct Exactly {
+    pub form: Form,
+    pub values: [u32; MAX_SUCCS],
 }
 
 // An operand's name and its allocation, and the place behind them.
@@ -128,23 +164,24 @@ pub enum Pair {
     Bad,
 }
 
-// The values of a `C`: is its form good, its numbers, its names in one number each, and the place of the line feed.
-pub struct Change {
-    pub good: bool,
-    pub inst: u32,
-    pub slot: u32,
-    pub from: u32,
-    pub to: u32,
-    pub next: usize,
+// The fields of a `C`: its numbers, its names in one number each, and the place of the line feed.
+pub enum Change {
+    Value {
+        inst: u32,
+        slot: u32,
+        from: u32,
+        to: u32,
+        next: usize,
+    },
+    Bad,
 }
 
-// A group of operands, `n (name reg)*n`: is its form good, how many there are, the first 8, and the place behind them.
+// A group of operands, `n (name reg)*n`: its form, how many there are, and the first 8.
 pub struct Operands {
-    pub good: bool,
+    pub form: Form,
     pub count: usize,
     pub names: [u32; MAX_OPERANDS],
     pub registers: [u32; MAX_OPERANDS],
-    pub next: usize,
 }
 
 // The slots of a `P` so far: is one beyond the limit, are they out of order, their mask, and the least that may come next.
@@ -155,11 +192,10 @@ pub struct Listed {
     pub least: u32,
 }
 
-// The slots of a `P`: is their form good, what they come to, and the place of the line feed.
-pub struct Slots {
-    pub good: bool,
-    pub listed: Listed,
-    pub next: usize,
+// The slots of a `P`: what they come to, and the place of the line feed.
+pub enum Slots {
+    Value(Listed, usize),
+    Bad,
 }
 
 // The next field of the line, as a number.
@@ -209,27 +245,32 @@ fn allocation_behind(s: &[u8], at: usize) -> Number
     }
 }
 
-// The one place where a well-formed line gets its number.
-fn lowest(beyond: bool, disorder: bool, elsewhere: bool, differ: bool) -> u32
-    ensures { λ r. ⌜ r ≡ lowest beyond disorder elsewhere differ ⌝ }
+// The one place where a well-formed line gets its number: document 01's order.
+fn lowest(place: Place, beyond: bool, disorder: bool, elsewhere: bool, differ: bool) -> Judged
+    ensures { λ r. ⌜ r ≡ judged-of (first-holding (holding place beyond disorder elsewhere differ)) ⌝ }
 {
-    if beyond {
-        5
+    let number = if place.misplaced {
+        OUT_OF_PLACE
+    } else if beyond {
+        BEYOND_LIMIT
     } else if disorder {
-        6
+        OUT_OF_ORDER
     } else if elsewhere {
-        7
+        REAL_ELSEWHERE
     } else if differ {
-        8
+        TYPES_DIFFER
+    } else if place.surplus {
+        STEP_TOO_MANY
     } else {
-        0
-    }
+        return Judged::Passes;
+    };
+    Judged::Breaks(Breach { number })
 }
 
 // All that is left of a line, as at most 8 numbers.
 fn read_numbers(s: &[u8], at: usize) -> Numbers
     requires { ⌜ Behind (now s) at ⌝ }
-    ensures { λ r. ⌜ NumbersRead (now (s .entry)) at (r .count) (r .values) (r .next) ⌝ }
+    ensures { λ r. ⌜ NumbersRead (now (s .entry)) at r ⌝ }
 {
     let mut values = [0u32; MAX_SUCCS];
     let mut count: usize = 0;
@@ -237,16 +278,16 @@ fn read_numbers(s: &[u8], at: usize) -> Numbers
     while s[i] != b'\n' {
         let Number::Value(v, next) = number_behind(s, i) else {
             return Numbers {
-                count: TOO_MANY,
+                form: Form::Bad,
+                count,
                 values,
-                next: i,
             };
         };
         if count == MAX_SUCCS {
             return Numbers {
-                count: TOO_MANY,
+                form: Form::Bad,
+                count,
                 values,
-                next: i,
             };
         }
         values[count] = v;
@@ -254,10 +295,27 @@ fn read_numbers(s: &[u8], at: usize) -> Numbers
         i = next;
     }
     Numbers {
+        form: Form::Good(i),
         count,
         values,
-        next: i,
     }
+}
+
+// All that is left of a line, as `n` numbers.
+fn read_exactly(s: &[u8], at: usize, n: usize) -> Exactly
+    requires { ⌜ Behind (now s) at × (n ≤ max-succs) ⌝ }
+    ensures { λ r. ⌜ ExactlyRead (now (s .entry)) at n r ⌝ }
+{
+    let read = read_numbers(s, at);
+    let values = read.values;
+    if read.count != n {
+        return Exactly {
+            form: Form::Bad,
+            values,
+        };
+    }
+    let form = read.form;
+    Exactly { form, values }
 }
 
 // Is one of `F`'s values beyond its limit?
@@ -285,102 +343,100 @@ fn any_beyond(values: [u32; MAX_SUCCS], count: usize, limit: u32) -> bool
 }
 
 // `F regs slots vregs blocks entry`.
-pub fn function_line(s: &[u8], at: usize) -> FunctionLine
+pub fn function_line(s: &[u8], at: usize, place: Place) -> FunctionLine
     requires { ⌜ Behind (now s) at ⌝ }
-    ensures { λ r. ⌜ ((S : Sheet) → Told S (now (s .entry)) at (function-of (fields-behind (now (s .entry)) at)) (r .number) (r .next) (function-record (r .regs) (r .slots) (r .vregs) (r .blocks) (r .entry))) ⌝ }
-    ensures within { λ r. ⌜ (r .number ≡ 0 → FunctionWithin (r .regs) (r .slots) (r .vregs) (r .blocks) (r .entry)) ⌝ }
+    ensures { λ r. ⌜ ((so : Option Sheet) → ((a b c d e : ℕ) → Placed so (function-record a b c d e) place) → function-line r ≡ told so (line-end (now (s .entry)) at) (function-of (fields-behind (now (s .entry)) at))) ⌝ }
+    ensures clear { λ r. ⌜ FunctionClear (now (s .entry)) place r ⌝ }
 {
-    let read = read_numbers(s, at);
+    let read = read_exactly(s, at, 5);
+    let form = read.form;
+    let Form::Good(next) = form else {
+        return FunctionLine::Bad(Breach { number: ILL_FORMED });
+    };
     let v = read.values;
     let regs = v[0];
     let slots = v[1];
     let vregs = v[2];
     let blocks = v[3];
     let entry = v[4];
-    let number = if read.count == 5 {
-        lowest(
-            function_beyond(regs, slots, vregs, blocks, entry),
-            false,
-            false,
-            false,
-        )
-    } else {
-        ILL_FORMED
-    };
-    FunctionLine {
-        number,
-        regs,
-        slots,
-        vregs,
-        blocks,
-        entry,
-        next: read.next,
+    let beyond = function_beyond(regs, slots, vregs, blocks, entry);
+    let judged = lowest(place, beyond, false, false, false);
+    match judged {
+        Judged::Breaks(breach) => FunctionLine::Bad(breach),
+        Judged::Passes => FunctionLine::Good {
+            regs,
+            slots,
+            vregs,
+            blocks,
+            entry,
+            next,
+        },
     }
 }
 
 // `T n`, with `least` the least number that may come next.
-pub fn typed_line(s: &[u8], at: usize, counts: Counts, least: u32) -> TypedLine
+pub fn typed_line(s: &[u8], at: usize, place: Place, counts: Counts, least: u32) -> TypedLine
     requires { ⌜ Behind (now s) at ⌝ }
-    ensures { λ r. ⌜ ((S : Sheet) → Counted S counts → Least S least → Told S (now (s .entry)) at (typed-of (fields-behind (now (s .entry)) at)) (r .number) (r .next) (typed-record (r .n))) ⌝ }
-    ensures within { λ r. ⌜ (r .number ≡ 0 → (r .n < counts .vregs) × (least ≤ r .n)) ⌝ }
+    ensures { λ r. ⌜ ((so : Option Sheet) → ((n : ℕ) → Placed so (typed-record n) place) → Counted (so-far-of so) counts → Least (so-far-of so) least → typed-line r ≡ told so (line-end (now (s .entry)) at) (typed-of (fields-behind (now (s .entry)) at))) ⌝ }
+    ensures clear { λ r. ⌜ TypedClear (now (s .entry)) place (counts .vregs) least r ⌝ }
 {
-    let read = read_numbers(s, at);
+    let read = read_exactly(s, at, 1);
+    let form = read.form;
+    let Form::Good(next) = form else {
+        return TypedLine::Bad(Breach { number: ILL_FORMED });
+    };
     let v = read.values;
     let n = v[0];
-    let number = if read.count == 1 {
-        lowest(counts.vregs <= n, n < least, false, false)
-    } else {
-        ILL_FORMED
-    };
-    TypedLine {
-        number,
-        n,
-        next: read.next,
+    let judged = lowest(place, counts.vregs <= n, n < least, false, false);
+    match judged {
+        Judged::Breaks(breach) => TypedLine::Bad(breach),
+        Judged::Passes => TypedLine::Good { n, next },
     }
 }
 
 // `B succ..`; a ninth successor is a field too many.
-pub fn block_line(s: &[u8], at: usize, counts: Counts) -> BlockLine
+pub fn block_line(s: &[u8], at: usize, place: Place, counts: Counts) -> BlockLine
     requires { ⌜ Behind (now s) at ⌝ }
-    ensures { λ r. ⌜ ((S : Sheet) → Counted S counts → Told S (now (s .entry)) at (block-of (fields-behind (now (s .entry)) at)) (r .number) (r .next) (block-record (take (r .count) (r .succs)))) ⌝ }
-    ensures within { λ r. ⌜ (r .number ≡ 0 → BlockWithin (counts .blocks) (r .count) (r .succs)) ⌝ }
+    ensures { λ r. ⌜ ((so : Option Sheet) → ((ns : List ℕ) → Placed so (block-record ns) place) → Counted (so-far-of so) counts → block-line r ≡ told so (line-end (now (s .entry)) at) (block-of (fields-behind (now (s .entry)) at))) ⌝ }
+    ensures clear { λ r. ⌜ BlockClear (now (s .entry)) place (counts .blocks) (r .succs) (r .told) ⌝ }
 {
     let read = read_numbers(s, at);
     let count = read.count;
     let succs = read.values;
-    let number = if count <= MAX_SUCCS {
-        lowest(any_beyond(succs, count, counts.blocks), false, false, false)
-    } else {
-        ILL_FORMED
+    let form = read.form;
+    let Form::Good(next) = form else {
+        return BlockLine {
+            told: BlockTold::Bad(Breach { number: ILL_FORMED }),
+            succs,
+        };
     };
-    BlockLine {
-        number,
-        count,
-        succs,
-        next: read.next,
-    }
+    let beyond = any_beyond(succs, count, counts.blocks);
+    let judged = lowest(place, beyond, false, false, false);
+    let told = match judged {
+        Judged::Breaks(breach) => BlockTold::Bad(breach),
+        Judged::Passes => BlockTold::Good { count, next },
+    };
+    BlockLine { told, succs }
 }
 
 // `S slot reg`, `L reg slot` and `M into from`, each with its two limits.
-pub fn pair_line(s: &[u8], at: usize, first: u32, second: u32) -> PairLine
+pub fn pair_line(s: &[u8], at: usize, place: Place, first: u32, second: u32) -> PairLine
     requires { ⌜ Behind (now s) at ⌝ }
-    ensures { λ r. ⌜ ((S : Sheet) (step : ℕ → ℕ → Step) → Paired S step first second → Told S (now (s .entry)) at (two-numbers-of step (fields-behind (now (s .entry)) at)) (r .number) (r .next) (step-record (step (r .a) (r .b)))) ⌝ }
-    ensures within { λ r. ⌜ (r .number ≡ 0 → (r .a < first) × (r .b < second)) ⌝ }
+    ensures { λ r. ⌜ ((so : Option Sheet) (step : ℕ → ℕ → Step) → ((x : Step) → Placed so (step-record x) place) → Paired (so-far-of so) step first second → pair-line step r ≡ told so (line-end (now (s .entry)) at) (two-numbers-of step (fields-behind (now (s .entry)) at))) ⌝ }
+    ensures clear { λ r. ⌜ PairClear (now (s .entry)) place first second r ⌝ }
 {
-    let read = read_numbers(s, at);
+    let read = read_exactly(s, at, 2);
+    let form = read.form;
+    let Form::Good(next) = form else {
+        return PairLine::Bad(Breach { number: ILL_FORMED });
+    };
     let v = read.values;
     let a = v[0];
     let b = v[1];
-    let number = if read.count == 2 {
-        lowest((first <= a) | (second <= b), false, false, false)
-    } else {
-        ILL_FORMED
-    };
-    PairLine {
-        number,
-        a,
-        b,
-        next: read.next,
+    let judged = lowest(place, (first <= a) | (second <= b), false, false, false);
+    match judged {
+        Judged::Breaks(breach) => PairLine::Bad(breach),
+        Judged::Passes => PairLine::Good { a, b, next },
     }
 }
 
@@ -419,57 +475,27 @@ fn name_word(name: u32) -> u16
     }
 }
 
-// A `C` that is refused by a number.
-fn no_change(number: u32, next: usize) -> ChangeLine
-    ensures { λ r. ⌜ (r .number ≡ number) × (r .next ≡ next) ⌝ }
-{
-    ChangeLine {
-        number,
-        inst: 0,
-        slot: 0,
-        from: 0,
-        to: 0,
-        next,
-    }
-}
-
-// A `C` whose form is bad.
-fn bad_change(at: usize) -> Change
-    ensures { λ r. ⌜ (r .good ≡ false) × (r .next ≡ at) ⌝ }
-{
-    Change {
-        good: false,
-        inst: 0,
-        slot: 0,
-        from: 0,
-        to: 0,
-        next: at,
-    }
-}
-
 // The fields of a `C`, to the line's end.
 fn read_change(s: &[u8], at: usize) -> Change
     requires { ⌜ Behind (now s) at ⌝ }
-    ensures { λ r. ⌜ (r .good ≡ true → ChangeRead (now (s .entry)) at r) ⌝ }
-    ensures bad { λ r. ⌜ (r .good ≡ false → change-of (fields-behind (now (s .entry)) at) ≡ none) ⌝ }
+    ensures { λ r. ⌜ ChangeRead (now (s .entry)) at r ⌝ }
 {
     let Number::Value(inst, a) = number_behind(s, at) else {
-        return bad_change(at);
+        return Change::Bad;
     };
     let Number::Value(slot, b) = number_behind(s, a) else {
-        return bad_change(at);
+        return Change::Bad;
     };
     let Number::Value(from, c) = name_behind(s, b) else {
-        return bad_change(at);
+        return Change::Bad;
     };
     let Number::Value(to, next) = name_behind(s, c) else {
-        return bad_change(at);
+        return Change::Bad;
     };
     if s[next] != b'\n' {
-        return bad_change(at);
+        return Change::Bad;
     }
-    Change {
-        good: true,
+    Change::Value {
         inst,
         slot,
         from,
@@ -479,37 +505,35 @@ fn read_change(s: &[u8], at: usize) -> Change
 }
 
 // `C inst slot from to`: the names come in nine bits each.
-pub fn change_line(s: &[u8], at: usize, counts: Counts, typed: &[u16]) -> ChangeLine
+pub fn change_line(s: &[u8], at: usize, place: Place, counts: Counts, typed: &[u16]) -> ChangeLine
     requires { ⌜ Behind (now s) at × (length (now typed) ≡ typed-words) × CountsWithin counts ⌝ }
-    ensures { λ r. ⌜ ((S : Sheet) → Counted S counts → TypedBy S (now (typed .entry)) → Told S (now (s .entry)) at (change-of (fields-behind (now (s .entry)) at)) (r .number) (r .next) (step-record (change (r .inst) (r .slot) (name-of-word (r .from)) (name-of-word (r .to))))) ⌝ }
-    ensures within { λ r. ⌜ (r .number ≡ 0 → ChangeWithin (counts .slots) (r .inst) (r .slot) (r .from) (r .to)) ⌝ }
+    ensures { λ r. ⌜ ((so : Option Sheet) → ((x : Step) → Placed so (step-record x) place) → Counted (so-far-of so) counts → TypedBy (so-far-of so) (now (typed .entry)) → change-line r ≡ told so (line-end (now (s .entry)) at) (change-of (fields-behind (now (s .entry)) at))) ⌝ }
+    ensures clear { λ r. ⌜ ChangeClear (now (s .entry)) place (counts .slots) r ⌝ }
 {
     let read = read_change(s, at);
-    let inst = read.inst;
-    let slot = read.slot;
-    let from = read.from;
-    let to = read.to;
-    if !read.good {
-        return no_change(ILL_FORMED, at);
-    }
+    let Change::Value {
+        inst,
+        slot,
+        from,
+        to,
+        next,
+    } = read
+    else {
+        return ChangeLine::Bad(Breach { number: ILL_FORMED });
+    };
     let beyond = (MAX_INST < inst)
         | ((counts.slots <= slot) | (name_beyond(from, counts) | name_beyond(to, counts)));
-    let number = lowest(
-        beyond,
-        false,
-        false,
-        refers(typed, from) != refers(typed, to),
-    );
-    if number != 0 {
-        return no_change(number, read.next);
-    }
-    ChangeLine {
-        number,
-        inst: inst as u16,
-        slot,
-        from: name_word(from),
-        to: name_word(to),
-        next: read.next,
+    let differ = refers(typed, from) != refers(typed, to);
+    let judged = lowest(place, beyond, false, false, differ);
+    match judged {
+        Judged::Breaks(breach) => ChangeLine::Bad(breach),
+        Judged::Passes => ChangeLine::Good {
+            inst: inst as u16,
+            slot,
+            from: name_word(from),
+            to: name_word(to),
+            next,
+        },
     }
 }
 
@@ -530,30 +554,27 @@ fn operand_behind(s: &[u8], at: usize) -> Pair
 // A group of operands: the form of all is read, and the first 8 are kept.
 fn read_operands(s: &[u8], at: usize) -> Operands
     requires { ⌜ Behind (now s) at ⌝ }
-    ensures { λ r. ⌜ (r .good ≡ true → OperandsRead (now (s .entry)) at r) ⌝ }
-    ensures bad { λ r. ⌜ (r .good ≡ false → counted-operands-of (fields-behind (now (s .entry)) at) ≡ none) ⌝ }
+    ensures { λ r. ⌜ OperandsRead (now (s .entry)) at r (r .form) ⌝ }
 {
     let mut names = [0u32; MAX_OPERANDS];
     let mut registers = [0u32; MAX_OPERANDS];
+    let mut count: usize = 0;
     let Number::Value(n, first) = number_behind(s, at) else {
         return Operands {
-            good: false,
-            count: 0,
+            form: Form::Bad,
+            count,
             names,
             registers,
-            next: at,
         };
     };
-    let mut count: usize = 0;
     let mut i = first;
     while count < n as usize {
         let Pair::Value(name, register, next) = operand_behind(s, i) else {
             return Operands {
-                good: false,
+                form: Form::Bad,
                 count,
                 names,
                 registers,
-                next: i,
             };
         };
         if count < MAX_OPERANDS {
@@ -564,11 +585,10 @@ fn read_operands(s: &[u8], at: usize) -> Operands
         i = next;
     }
     Operands {
-        good: true,
+        form: Form::Good(i),
         count,
         names,
         registers,
-        next: i,
     }
 }
 
@@ -659,14 +679,21 @@ fn is_elsewhere(name: u32, register: u32) -> bool
     }
 }
 
-// The number of an operation whose form is good.
-fn judge_operation(inst: u32, uses: Operands, defs: Operands, counts: Counts) -> u32
+// An operation whose form is good, held against the conditions.
+fn judge_operation(
+    inst: u32,
+    uses: Operands,
+    defs: Operands,
+    counts: Counts,
+    place: Place,
+) -> Judged
     requires { ⌜ Roomy uses × Roomy defs ⌝ }
-    ensures { λ r. ⌜ ((us : List Operand) (ds : List Operand) → Kept us uses → Kept ds defs → r ≡ verdict (counted counts) (some (step-record (operation inst us ds)))) ⌝ }
+    ensures { λ r. ⌜ ((so : Option Sheet) (us : List Operand) (ds : List Operand) → ((x : Step) → Placed so (step-record x) place) → Counted (so-far-of so) counts → Kept us uses → Kept ds defs → r ≡ judged-of (first-holding (conditions so (step-record (operation inst us ds))))) ⌝ }
+    ensures clear { λ r. ⌜ OperationWithin counts place inst uses defs r ⌝ }
 {
     let beyond = (MAX_INST < inst) | (group_beyond(uses, counts) | group_beyond(defs, counts));
     if beyond {
-        return lowest(beyond, false, false, false);
+        return lowest(place, beyond, false, false, false);
     }
     let used = uses.names;
     let defined = defs.names;
@@ -674,7 +701,7 @@ fn judge_operation(inst: u32, uses: Operands, defs: Operands, counts: Counts) ->
     let disorder = repeated(used, uses.count, NAMES)
         | (repeated(defined, defs.count, NAMES) | repeated(registers, defs.count, NO_ALLOCATION));
     let elsewhere = any_elsewhere(uses) | any_elsewhere(defs);
-    lowest(beyond, disorder, elsewhere, false)
+    lowest(place, beyond, disorder, elsewhere, false)
 }
 
 fn register_word(register: u32) -> u16
@@ -723,57 +750,54 @@ fn pack(
     out
 }
 
-// An `O` that is refused by a number.
-fn no_operation(number: u32, next: usize) -> OperationLine
-    ensures { λ r. ⌜ (r .number ≡ number) × (r .next ≡ next) ⌝ }
-{
-    OperationLine {
-        number,
-        inst: 0,
-        n: 0,
-        m: 0,
-        operands: [0u16; OPERAND_WORDS],
-        next,
-    }
-}
-
 // `O inst n (name reg)*n m (name reg)*m`: the uses' words stand at 0, the defs' at DEFS_FROM.
-pub fn operation_line(s: &[u8], at: usize, counts: Counts, typed: &[u16]) -> OperationLine
+pub fn operation_line(
+    s: &[u8],
+    at: usize,
+    place: Place,
+    counts: Counts,
+    typed: &[u16],
+) -> OperationLine
     requires { ⌜ Behind (now s) at × (length (now typed) ≡ typed-words) × CountsWithin counts ⌝ }
-    ensures { λ r. ⌜ ((S : Sheet) → Counted S counts → Told S (now (s .entry)) at (operation-of (fields-behind (now (s .entry)) at)) (r .number) (r .next) (step-record (operation (r .inst) (operands 0 (r .n) (r .operands)) (operands defs-from (r .m) (r .operands))))) ⌝ }
-    ensures within { λ r. ⌜ (r .number ≡ 0 → (S : Sheet) → Counted S counts → TypedBy S (now (typed .entry)) → (r .inst ≤ max-inst) × GroupWithin S (counts .regs) 0 (r .n) (r .operands) × GroupWithin S (counts .regs) defs-from (r .m) (r .operands)) ⌝ }
+    ensures { λ r. ⌜ ((so : Option Sheet) → ((x : Step) → Placed so (step-record x) place) → Counted (so-far-of so) counts → operation-line r ≡ told so (line-end (now (s .entry)) at) (operation-of (fields-behind (now (s .entry)) at))) ⌝ }
+    ensures clear { λ r. ⌜ OperationClear (now (s .entry)) place counts (now (typed .entry)) (r .operands) (r .told) ⌝ }
 {
+    let operands = [0u16; OPERAND_WORDS];
+    let ill_formed = OperationLine {
+        told: OperationTold::Bad(Breach { number: ILL_FORMED }),
+        operands,
+    };
     let Number::Value(inst, first) = number_behind(s, at) else {
-        return no_operation(ILL_FORMED, at);
+        return ill_formed;
     };
     let uses = read_operands(s, first);
-    if !uses.good {
-        return no_operation(ILL_FORMED, at);
-    }
-    let defs = read_operands(s, uses.next);
-    if !defs.good {
-        return no_operation(ILL_FORMED, at);
-    }
-    let next = defs.next;
+    let uses_form = uses.form;
+    let Form::Good(middle) = uses_form else {
+        return ill_formed;
+    };
+    let defs = read_operands(s, middle);
+    let defs_form = defs.form;
+    let Form::Good(next) = defs_form else {
+        return ill_formed;
+    };
     if s[next] != b'\n' {
-        return no_operation(ILL_FORMED, at);
+        return ill_formed;
     }
-    let number = judge_operation(inst, uses, defs, counts);
-    if number != 0 {
-        return no_operation(number, next);
-    }
-    OperationLine {
-        number,
-        inst: inst as u16,
-        n: uses.count,
-        m: defs.count,
-        operands: pack(
-            pack([0u16; OPERAND_WORDS], 0, uses, typed),
-            DEFS_FROM,
-            defs,
-            typed,
-        ),
-        next,
+    let judged = judge_operation(inst, uses, defs, counts, place);
+    match judged {
+        Judged::Breaks(breach) => OperationLine {
+            told: OperationTold::Bad(breach),
+            operands,
+        },
+        Judged::Passes => OperationLine {
+            told: OperationTold::Good {
+                inst: inst as u16,
+                n: uses.count,
+                m: defs.count,
+                next,
+            },
+            operands: pack(pack(operands, 0, uses, typed), DEFS_FROM, defs, typed),
+        },
     }
 }
 
@@ -799,8 +823,7 @@ fn list_slot(listed: Listed, slot: u32, slots: u32) -> Listed
 // All that is left of a `P`, as slots.
 fn read_slots(s: &[u8], at: usize, slots: u32) -> Slots
     requires { ⌜ Behind (now s) at × (slots ≤ max-slots) ⌝ }
-    ensures { λ r. ⌜ (r .good ≡ true → SlotsRead (now (s .entry)) at slots (r .next) (r .listed)) ⌝ }
-    ensures bad { λ r. ⌜ (r .good ≡ false → numbers-of (fields-behind (now (s .entry)) at) ≡ none) ⌝ }
+    ensures { λ r. ⌜ SlotsRead (now (s .entry)) at slots r ⌝ }
 {
     let mut listed = Listed {
         beyond: false,
@@ -811,61 +834,35 @@ fn read_slots(s: &[u8], at: usize, slots: u32) -> Slots
     let mut i = at;
     while s[i] != b'\n' {
         let Number::Value(slot, next) = number_behind(s, i) else {
-            return Slots {
-                good: false,
-                listed,
-                next: i,
-            };
+            return Slots::Bad;
         };
         listed = list_slot(listed, slot, slots);
         i = next;
     }
-    Slots {
-        good: true,
-        listed,
-        next: i,
-    }
-}
-
-// A `P` that is refused.
-fn no_safepoint(number: u32, next: usize) -> SafepointLine
-    ensures { λ r. ⌜ (r .number ≡ number) × (r .next ≡ next) ⌝ }
-{
-    SafepointLine {
-        number,
-        inst: 0,
-        mask: 0,
-        next,
-    }
+    Slots::Value(listed, i)
 }
 
 // `P inst slot..`: the mask has a bit for each slot listed.
-pub fn safepoint_line(s: &[u8], at: usize, counts: Counts) -> SafepointLine
+pub fn safepoint_line(s: &[u8], at: usize, place: Place, counts: Counts) -> SafepointLine
     requires { ⌜ Behind (now s) at × CountsWithin counts ⌝ }
-    ensures { λ r. ⌜ ((S : Sheet) → Counted S counts → Told S (now (s .entry)) at (safepoint-of (fields-behind (now (s .entry)) at)) (r .number) (r .next) (step-record (safepoint (r .inst) (set-bits (r .mask))))) ⌝ }
-    ensures within { λ r. ⌜ (r .number ≡ 0 → (r .inst ≤ max-inst) × (r .mask < 2 ^ counts .slots)) ⌝ }
+    ensures { λ r. ⌜ ((so : Option Sheet) → ((x : Step) → Placed so (step-record x) place) → Counted (so-far-of so) counts → safepoint-line r ≡ told so (line-end (now (s .entry)) at) (safepoint-of (fields-behind (now (s .entry)) at))) ⌝ }
+    ensures clear { λ r. ⌜ SafepointClear (now (s .entry)) place (counts .slots) r ⌝ }
 {
     let Number::Value(inst, first) = number_behind(s, at) else {
-        return no_safepoint(ILL_FORMED, at);
+        return SafepointLine::Bad(Breach { number: ILL_FORMED });
     };
     let slots = read_slots(s, first, counts.slots);
-    let listed = slots.listed;
-    if !slots.good {
-        return no_safepoint(ILL_FORMED, at);
-    }
-    let number = lowest(
-        (MAX_INST < inst) | listed.beyond,
-        listed.disorder,
-        false,
-        false,
-    );
-    if number != 0 {
-        return no_safepoint(number, slots.next);
-    }
-    SafepointLine {
-        number,
-        inst: inst as u16,
-        mask: listed.mask,
-        next: slots.next,
+    let Slots::Value(listed, next) = slots else {
+        return SafepointLine::Bad(Breach { number: ILL_FORMED });
+    };
+    let beyond = (MAX_INST < inst) | listed.beyond;
+    let judged = lowest(place, beyond, listed.disorder, false, false);
+    match judged {
+        Judged::Breaks(breach) => SafepointLine::Bad(breach),
+        Judged::Passes => SafepointLine::Good {
+            inst: inst as u16,
+            mask: listed.mask,
+            next,
+        },
     }
 }

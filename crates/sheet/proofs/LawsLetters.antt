@@ -68,7 +68,7 @@ module _ (s : Bytes) (at : ℕ) (text : SheetText s) (inside : at < length s) wh
         })
 
     -- refusal 3
-    pub no-letter : (by-letter letter (fields-behind s (field-end s at)) ≡ none) → (l : List ℕ) → LineRead (record-of (fields (line-at s at))) s at l l (lined.Bad 3)
+    pub no-letter : (by-letter letter (fields-behind s (field-end s at)) ≡ none) → (l : List ℕ) → LineRead (record-of (fields (line-at s at))) s at l l (lined.Bad (record { number = 3 }))
     unfolding lined-of read-record
     no-letter z l = rw (by-its-letter, z) (record {
       answer = refl;

@@ -14,9 +14,11 @@ use Rattle.paper.specs.Text.{Bytes, lines, fields}
 use Rattle.paper.specs.Sheet.{Sheet}
 use Rattle.paper.specs.Refusals.{loaded, refused, good, bad, record-of, read-record, read-line, read-end, carry-on, read-lines, no-text, read}
 use Rattle.paper.specs.Refusals as paper
+use Rattle.paper.specs.declared.Refusal.{Refusal}
 use Rattle.layout.specs.Layout.{blocks-word, opened-word, begun-word, block-base, all-words}
 use Rattle.fields.specs.Fields.{line-at, line-end}
 use Rattle.fields.specs.Cursor.{lines-at, lines-past}
+use Rattle.records.specs.declared.Breach.{Breach}
 use Rattle.sheet.specs.Loaded.{sheet-of, so-far}
 use Rattle.sheet.specs.Reading.{Blank, Progress, lined-of, LineRead, loading-of, Load}
 use Rattle.sheet.specs.Reading as reading
@@ -25,6 +27,16 @@ use Rattle.sheet.specs.declared.Loading as Loading
 use Rattle.sheet.specs.declared.Loading.the-variants as loading
 use Rattle.sheet.specs.Blocks.{length-blocks}
 use Rattle.sheet.proofs.LawsProgress.{so-far-blank, so-far-begun}
+
+-- a sheet that is refused: its words may be anything
+refused-load : {sheet : Bytes} {before after : List ℕ} {refusal : Refusal} → read sheet ≡ refused refusal → length after ≡ length before
+    → Load sheet before after (loading.Refused refusal)
+unfolding loading-of
+refused-load {refusal} q len = record {
+  answer = rw q;
+  same-length = len;
+  meaning = λ S g. absurd (let w : refused refusal ≡ loaded S = sym q ∙ g in let z : _≡_ {A = ℕ} 0 1 = cc in omega arith);
+}
 
 -- what is still to be read, from the line at `at` on, gives what the sheet gives
 pub record Ahead (sheet : Bytes) (at line : ℕ) (words₀ words : List ℕ) : Type 0 where
@@ -51,10 +63,10 @@ unfolding lined-of
 good-of next n (good S) P e f = f S refl (cc)
 good-of next n (bad k) P e f = absurd (let z : _≡_ {A = ℕ} 0 1 = cc in omega arith)
 
-bad-of : (next n : ℕ) (x : paper.Lined) → lined.Bad n ≡ lined-of next x → x ≡ bad n
+bad-of : (next : ℕ) (breach : Breach) (x : paper.Lined) → lined.Bad breach ≡ lined-of next x → x ≡ bad (breach .number)
 unfolding lined-of
-bad-of next n (good S) e = absurd (let z : _≡_ {A = ℕ} 0 1 = cc in omega arith)
-bad-of next n (bad k) e = cc
+bad-of next breach (good S) e = absurd (let z : _≡_ {A = ℕ} 0 1 = cc in omega arith)
+bad-of next breach (bad k) e = let z : _≡_ {A = Breach} breach (record { number = k }) = cc in ap (λ (b : Breach). bad (b .number)) (sym z)
 
 further : (sheet : Bytes) (at : ℕ) → at ≤ line-end sheet at
 unfolding line-end
@@ -83,16 +95,12 @@ module _ {sheet : Bytes} {at line : ℕ} {words₀ words : List ℕ} (ahead : Ah
       good-of (line-end sheet at + 1) n (read-record (so-far words) (record-of (fields (line-at sheet at)))) (at < n) (r .answer) λ S g e.
       omega (arith, further sheet at)
 
-  pub line-bad : {words′ : List ℕ} (n : ℕ) → LineRead (record-of (fields (line-at sheet at))) sheet at words words′ (lined.Bad n) → Load sheet words₀ words′ (loading.Refused n line)
-  unfolding carry-on loading-of
-  line-bad {words′} n r =
-      let b : read-record (so-far words) (record-of (fields (line-at sheet at))) ≡ bad n = bad-of (line-end sheet at + 1) n _ (r .answer) in
-      let q : read sheet ≡ refused n line = next-line ∙ rw b in
-      record {
-        answer = rw q;
-        same-length = r .same-length ∙ ahead .same-length;
-        meaning = λ S g. absurd (let w : refused n line ≡ loaded S = sym q ∙ g in let z : _≡_ {A = ℕ} 0 1 = cc in omega arith);
-      }
+  pub line-bad : {words′ : List ℕ} (breach : Breach) → LineRead (record-of (fields (line-at sheet at))) sheet at words words′ (lined.Bad breach)
+      → Load sheet words₀ words′ (loading.Refused (record { number = breach .number; line = line }))
+  unfolding carry-on
+  line-bad {words′} breach r =
+      let b : read-record (so-far words) (record-of (fields (line-at sheet at))) ≡ bad (breach .number) = bad-of (line-end sheet at + 1) breach _ (r .answer) in
+      refused-load (next-line ∙ rw b) (r .same-length ∙ ahead .same-length)
 
 -- the end
 
@@ -102,17 +110,13 @@ module _ {sheet : Bytes} {at line : ℕ} {words₀ words : List ℕ} (ahead : Ah
   at-end = ahead .gives ∙ rw (lines-past sheet at ended)
 
   -- "or the sheet ends with too few `B`"
-  pub too-few : (eqb (getD words begun-word 0) 0 || ltb (getD words opened-word 0) (getD words blocks-word 0)) ≡ true → Load sheet words₀ words (loading.Refused 4 line)
-  unfolding loading-of read-end sheet-of
-  too-few e =
-      let q : read sheet ≡ refused 4 line = at-end ∙ go (ahead .progress) e in
-      record {
-        answer = rw q;
-        same-length = ahead .same-length;
-        meaning = λ S g. absurd (let w : refused 4 line ≡ loaded S = sym q ∙ g in let z : _≡_ {A = ℕ} 0 1 = cc in omega arith);
-      }
+  pub too-few : (eqb (getD words begun-word 0) 0 || ltb (getD words opened-word 0) (getD words blocks-word 0)) ≡ true
+      → Load sheet words₀ words (loading.Refused (record { number = 4; line = line }))
+  unfolding read-end sheet-of
+  too-few e = refused-load (at-end ∙ go (ahead .progress) e) (ahead .same-length)
     where
-      go : Progress words → (eqb (getD words begun-word 0) 0 || ltb (getD words opened-word 0) (getD words blocks-word 0)) ≡ true → read-end line (so-far words) ≡ refused 4 line
+      go : Progress words → (eqb (getD words begun-word 0) 0 || ltb (getD words opened-word 0) (getD words blocks-word 0)) ≡ true
+          → read-end line (so-far words) ≡ refused (record { number = 4; line = line })
       go (reading.blank p) e = rw (so-far-blank words p)
       go (reading.begun p) e = rw (so-far-begun words p, length-blocks words 0 (getD words opened-word 0), rw (p .begun) at e)
 
@@ -137,13 +141,9 @@ module _ {sheet : Bytes} {at line : ℕ} {words₀ words : List ℕ} (ahead : Ah
 -- before the first line
 
 -- refusal 2
-pub no-sheet : (sheet : Bytes) (words : List ℕ) → no-text sheet ≡ true → Load sheet words words (loading.Refused 2 0)
-unfolding read loading-of
-no-sheet sheet words e = record {
-  answer = rw e;
-  same-length = refl;
-  meaning = λ S g. absurd (let w : refused 2 0 ≡ loaded S = rw e at g in let z : _≡_ {A = ℕ} 0 1 = cc in omega arith);
-}
+pub no-sheet : (sheet : Bytes) (words : List ℕ) → no-text sheet ≡ true → Load sheet words words (loading.Refused (record { number = 2; line = 0 }))
+unfolding read
+no-sheet sheet words e = refused-load (rw e) refl
 
 -- the words with all below the blocks cleared
 module _ (words zeros : List ℕ) (e : zeros ≡ replicate (length (take block-base words)) 0) (size : all-words ≤ length words) where

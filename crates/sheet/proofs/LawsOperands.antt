@@ -1,7 +1,6 @@
--- The operands of the next step, stored before the step stands: nothing that was read changes, and the action finds them there.
+-- The operands of the next step, stored before it: nothing that was read changes, and the action finds them there.
 use mathlib.Core.Path.{_≡_, sym, ap, _∙_}
 use mathlib.Core.List.{List, map}
-use mathlib.Core.Option.{Option, some}
 use Prim.Native.Nat.{ℕ, _+_, _*_, _≤_, _<_}
 use native.Mathlib.Nat.{add-zero, zero-add}
 use native.Mathlib.Omega.{arith}
@@ -9,22 +8,18 @@ use lib.ListN.{length, getD}
 use lib.Seq.{ext-getD}
 use Rattle.lists.specs.Over.{over, length-over, getD-over-in, getD-over-below}
 use Rattle.lists.specs.Region.{region, length-region, getD-region}
-use Rattle.paper.specs.Text.{Bytes}
 use Rattle.paper.specs.Sheet.{Sheet, operation}
-use Rattle.paper.specs.Refusals.{Record}
+use Rattle.paper.specs.Refusals.{Record, add-record}
 use Rattle.paper.specs.Limits.{max-operands}
 use Rattle.layout.specs.Layout.{regs-word, opened-word, steps-word, block-base, block-words, operand-base, defs-from, operand-words}
 use Rattle.records.specs.Records.{GroupWithin}
 use Rattle.steps.specs.Actions.{operand-of, operands, step-of}
 use Rattle.steps.specs.declared.Action.the-variants.{Operation}
-use Rattle.sheet.specs.Loaded.{step-total, blocks-at, sheet-of, so-far}
-use Rattle.sheet.specs.Reading.{Blank, Begun, Progress, Fits, LineRead}
-use Rattle.sheet.specs.Reading as reading
-use Rattle.sheet.specs.declared.Lined as Lined
+use Rattle.sheet.specs.Loaded.{step-total, blocks-at, sheet-of}
+use Rattle.sheet.specs.Reading.{Begun, Fits, Stored}
 use Rattle.steps.specs.Same.{SameSteps}
 use Rattle.sheet.specs.Blocks.{SameHead, SameLinks, kept-step-bounds, kept-block-bounds, kept-blocks, same-first}
 use Rattle.sheet.proofs.LawsBody.{with-body, bounds-after, least-after, begun-after, meaning-after}
-use Rattle.sheet.proofs.LawsProgress.{sheet-blank, so-far-blank, so-far-begun}
 
 -- the place of the next step's operands
 abbrev pub operands-place : List ℕ → ℕ
@@ -37,9 +32,8 @@ module _ (row l m : List ℕ) (e : m ≡ over (operands-place l) operand-words (
   low : (i : ℕ) → i < operands-place l → getD m i 0 ≡ getD l i 0
   low i h = rw e (getD-over-below (operands-place l) operand-words (λ k x. getD row k 0) l i 0 h)
 
-  module _ (p : Blank l) where
-    blank-after : Blank m
-    blank-after = record { size = rw size (p .size); zeros = λ i h. low i (omega arith) ∙ p .zeros i h }
+  pub counts-still : (getD m opened-word 0 ≡ getD l opened-word 0) × (getD m steps-word 0 ≡ getD l steps-word 0)
+  counts-still = (low opened-word (omega arith), low steps-word (omega arith))
 
   module _ (p : Begun l) where
     head : SameHead l m
@@ -63,7 +57,7 @@ module _ (row l m : List ℕ) (e : m ≡ over (operands-place l) operand-words (
     body : blocks-at m 0 (getD m opened-word 0) ≡ blocks-at l 0 (getD l opened-word 0)
     body = rw opened (kept-blocks (p .bounds) head steps (getD l opened-word 0) (omega arith) links totals)
 
-    begun-still : Begun m
+    pub begun-still : Begun m
     begun-still = record {
       begun = begun-after p head steps;
       bounds = bounds-after p head steps (rw opened (p .bounds .opened)) (rw count (p .bounds .steps))
@@ -76,28 +70,16 @@ module _ (row l m : List ℕ) (e : m ≡ over (operands-place l) operand-words (
           rw (same-first (p .bounds) head steps b (omega arith) (links b (omega arith)), totals b (omega arith), count) (p .last b h);
     }
 
-    sheet-still : sheet-of m ≡ sheet-of l
+    pub sheet-still : sheet-of m ≡ sheet-of l
     unfolding sheet-of with-body
     sheet-still = meaning-after p head steps ∙ ap (with-body l) body
 
-  pub progress-kept : Progress l → Progress m
-  progress-kept (reading.blank p) = reading.blank (blank-after p)
-  progress-kept (reading.begun p) = reading.begun (begun-still p)
-
-  pub sheet-kept : Progress l → sheet-of m ≡ sheet-of l
-  sheet-kept (reading.blank p) = sheet-blank m (blank-after p) ∙ sym (sheet-blank l p)
-  sheet-kept (reading.begun p) = sheet-still p
-
-  so-far-kept : Progress l → so-far m ≡ so-far l
-  so-far-kept (reading.blank p) = so-far-blank m (blank-after p) ∙ sym (so-far-blank l p)
-  so-far-kept (reading.begun p) = so-far-begun m (begun-still p) ∙ ap (λ (S : Sheet). some S) (sheet-still p) ∙ sym (so-far-begun l p)
-
-  -- a line that was read from here was read from there
-  pub line-kept : Progress l → {read : Option Record} {s : Bytes} {at : ℕ} {l′ : List ℕ} {r : Lined.Lined} → LineRead read s at m l′ r → LineRead read s at l l′ r
-  line-kept p line = record {
-    answer = rw (← so-far-kept p) (line .answer);
-    same-length = line .same-length ∙ size;
-    good-line = λ S g. line .good-line S (rw (so-far-kept p) g);
+  -- one record more from here is one more from there
+  pub stored-from : Begun l → {l′ : List ℕ} {r x : Record} → r ≡ x → Stored m l′ r → Stored l l′ x
+  stored-from p {l′} {r} q stored = record {
+    same-length = stored .same-length ∙ size;
+    meaning = stored .meaning ∙ ap (λ (S : Sheet). add-record S r) (sheet-still p) ∙ ap (add-record (sheet-of l)) q;
+    progress = stored .progress;
   }
 
   module _ (all : length row ≡ operand-words) (room : operands-place l + operand-words ≤ length l) where
@@ -119,7 +101,7 @@ module _ (row l m : List ℕ) (e : m ≡ over (operands-place l) operand-words (
     unfolding step-of
     operation-stored inst n k hn hk = rw (← group-stored 0 n (omega arith), ← group-stored defs-from k (omega arith), add-zero)
 
-    pub operation-fits : Progress l → (inst n k : ℕ) → GroupWithin (sheet-of l) (getD l regs-word 0) 0 n row → GroupWithin (sheet-of l) (getD l regs-word 0) defs-from k row
+    pub operation-fits : Begun l → (inst n k : ℕ) → GroupWithin (sheet-of l) (getD l regs-word 0) 0 n row → GroupWithin (sheet-of l) (getD l regs-word 0) defs-from k row
         → Fits m (Operation inst (operands-place l) n k)
     operation-fits p inst n k us ds = record {
       packs = (rw (low steps-word (omega arith)), omega (arith, us .few), omega (arith, ds .few));
@@ -131,13 +113,12 @@ module _ (row l m : List ℕ) (e : m ≡ over (operands-place l) operand-words (
         λ i h. rw (def-place i, word-stored (defs-from + i) (omega (arith, ds .few))) (ds .registers i h),
       );
       honest = λ i h.
-          rw (sheet-kept p, def-place i, word-stored (defs-from + i) (omega (arith, ds .few)))
+          rw (sheet-still p, def-place i, word-stored (defs-from + i) (omega (arith, ds .few)))
           (ds .marks i h);
     }
       where
         def-place : (i : ℕ) → operands-place l + defs-from + i ≡ operands-place l + (defs-from + i)
         def-place i = omega arith
 
-pub operands-room : (l : List ℕ) → Progress l → operands-place l + operand-words ≤ length l
-operands-room l (reading.blank p) = omega (arith, p .zeros steps-word (omega arith), p .size)
-operands-room l (reading.begun p) = omega (arith, p .bounds .steps, p .bounds .size)
+pub operands-room : (l : List ℕ) → Begun l → operands-place l + operand-words ≤ length l
+operands-room l p = omega (arith, p .bounds .steps, p .bounds .size)

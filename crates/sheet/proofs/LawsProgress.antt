@@ -1,22 +1,24 @@
 -- How far reading has come, in the paper's words: the sheet so far, the place of a line, and what a line is held against.
 use mathlib.Core.Path.{_≡_, refl, sym}
-use mathlib.Core.Bool.{not, _||_}
+use mathlib.Core.Bool.{false, not, _||_}
 use mathlib.Core.List.{List}
 use mathlib.Core.Option.{none, some}
 use Prim.Native.Nat.{ℕ, zero, suc, _≤_, _<_}
 use native.Mathlib.Omega.{arith}
-use borrow.Author.Tests.{ne-eqb}
+use borrow.Author.Tests.{ne-eqb, eqb-false, leb-false}
 use lib.Dec.{eqb, leb}
 use lib.ListN.{length, getD}
 use Rattle.lists.specs.Region.{region}
+use Rattle.paper.specs.Text.{Bytes}
 use Rattle.paper.specs.Sheet.{Step}
 use Rattle.paper.specs.Limits.{max-steps}
 use Rattle.paper.specs.Refusals.{function-record, typed-record, block-record, step-record, empty, out-of-place, step-too-many, step-count, blank, so-far-of}
 use Rattle.layout.specs.Layout.{blocks-word, opened-word, steps-word, least-word, begun-word, typed-base, typed-words, all-words}
-use Rattle.records.specs.Records.{Counted, CountsWithin, TypedBy, Least}
+use Rattle.records.specs.Records.{InPlace, Placed, Counted, CountsWithin, TypedBy, Least}
 use Rattle.records.specs.declared.Counts.{Counts}
+use Rattle.records.specs.declared.Place.{Place}
 use Rattle.sheet.specs.Loaded.{blocks-at, sheet-of, so-far}
-use Rattle.sheet.specs.Reading.{Blank, Begun, Progress, counts-of}
+use Rattle.sheet.specs.Reading.{Blank, Begun, Progress, counts-of, step-place}
 use Rattle.sheet.specs.Reading as reading
 use Rattle.sheet.proofs.LawsTyped.{listed-marked, ascending-one}
 use Rattle.sheet.proofs.LawsHeader.{none-typed}
@@ -54,18 +56,35 @@ pub size-of : (l : List ℕ) → Progress l → all-words ≤ length l
 size-of l (reading.blank p) = p .size
 size-of l (reading.begun p) = p .bounds .size
 
--- where the `F` has been read
+-- where the `F` has not been read, and where it has
+pub blank-of : (l : List ℕ) → Progress l → getD l begun-word 0 ≡ 0 → Blank l
+blank-of l (reading.blank p) e = p
+blank-of l (reading.begun p) e = absurd (omega (arith, p .begun))
+
 pub begun-of : (l : List ℕ) → Progress l → (getD l begun-word 0 ≡ 0 → ⊥) → Begun l
 begun-of l (reading.blank p) d = absurd (d (p .zeros begun-word (omega arith)))
 begun-of l (reading.begun p) d = p
 
-pub begun-by-opened : (l : List ℕ) → Progress l → (getD l opened-word 0 ≡ 0 → ⊥) → Begun l
+begun-by-opened : (l : List ℕ) → Progress l → (getD l opened-word 0 ≡ 0 → ⊥) → Begun l
 begun-by-opened l (reading.blank p) d = absurd (d (p .zeros opened-word (omega arith)))
 begun-by-opened l (reading.begun p) d = p
 
 pub begun-by-room : (l : List ℕ) → Progress l → getD l opened-word 0 < getD l blocks-word 0 → Begun l
 begun-by-room l (reading.blank p) h = absurd (omega (arith, p .zeros blocks-word (omega arith)))
 begun-by-room l (reading.begun p) h = p
+
+-- where a step is in its place, there is a block that it belongs to and room for it
+pub record Ready (l : List ℕ) : Type 0 where
+  pub some-sheet : Begun l
+  pub some-block : 0 < getD l opened-word 0
+  pub some-room : getD l steps-word 0 < max-steps
+
+pub step-ready : {l : List ℕ} {s : Bytes} {place : Place} {next : ℕ} → Progress l → place ≡ step-place l → InPlace s place next → Ready l
+step-ready {l} {s} {place} {next} p e w =
+    let placed : eqb (getD l opened-word 0) 0 ≡ false = rw e at (w .placed) in
+    let room : leb max-steps (getD l steps-word 0) ≡ false = rw e at (w .room) in
+    let opened = eqb-false (getD l opened-word 0) 0 placed in
+    record { some-sheet = begun-by-opened l p opened; some-block = omega (arith, opened); some-room = leb-false max-steps (getD l steps-word 0) room }
 
 -- the place of a line
 
@@ -75,30 +94,46 @@ empty-blocks l zero = refl
 empty-blocks l (suc n) = sym (ne-eqb (suc n) 0 (λ e. omega arith))
 
 module _ (l : List ℕ) where
-  pub function-place : (p : Progress l) (a b c d e : ℕ) → out-of-place (so-far l) (function-record a b c d e) ≡ not (eqb (getD l begun-word 0) 0)
+  function-place : (p : Progress l) (a b c d e : ℕ) → out-of-place (so-far l) (function-record a b c d e) ≡ not (eqb (getD l begun-word 0) 0)
   unfolding out-of-place
   function-place (reading.blank p) a b c d e = rw (so-far-blank l p, p .zeros begun-word (omega arith))
   function-place (reading.begun p) a b c d e = rw (so-far-begun l p, p .begun)
 
-  pub typed-place : (p : Progress l) (n : ℕ) → out-of-place (so-far l) (typed-record n) ≡ (eqb (getD l begun-word 0) 0 || not (eqb (getD l opened-word 0) 0))
+  typed-place : (p : Progress l) (n : ℕ) → out-of-place (so-far l) (typed-record n) ≡ (eqb (getD l begun-word 0) 0 || not (eqb (getD l opened-word 0) 0))
   unfolding out-of-place sheet-of
   typed-place (reading.blank p) n = rw (so-far-blank l p, p .zeros begun-word (omega arith))
   typed-place (reading.begun p) n = rw (so-far-begun l p, p .begun, empty-blocks l (getD l opened-word 0))
 
-  pub block-place : (p : Progress l) (ns : List ℕ) → out-of-place (so-far l) (block-record ns) ≡ leb (getD l blocks-word 0) (getD l opened-word 0)
+  block-place : (p : Progress l) (ns : List ℕ) → out-of-place (so-far l) (block-record ns) ≡ leb (getD l blocks-word 0) (getD l opened-word 0)
   unfolding out-of-place sheet-of
   block-place (reading.blank p) ns = rw (so-far-blank l p, p .zeros blocks-word (omega arith), p .zeros opened-word (omega arith))
   block-place (reading.begun p) ns = rw (so-far-begun l p, length-blocks l 0 (getD l opened-word 0))
 
-  pub step-place : (p : Progress l) (x : Step) → out-of-place (so-far l) (step-record x) ≡ eqb (getD l opened-word 0) 0
+  step-out : (p : Progress l) (x : Step) → out-of-place (so-far l) (step-record x) ≡ eqb (getD l opened-word 0) 0
   unfolding out-of-place sheet-of
-  step-place (reading.blank p) x = rw (so-far-blank l p, p .zeros opened-word (omega arith))
-  step-place (reading.begun p) x = rw (so-far-begun l p, empty-blocks l (getD l opened-word 0))
+  step-out (reading.blank p) x = rw (so-far-blank l p, p .zeros opened-word (omega arith))
+  step-out (reading.begun p) x = rw (so-far-begun l p, empty-blocks l (getD l opened-word 0))
 
-  pub steps-many : (p : Progress l) (x : Step) → step-too-many (sheet-of l) (step-record x) ≡ leb max-steps (getD l steps-word 0)
+  steps-many : (p : Progress l) (x : Step) → step-too-many (sheet-of l) (step-record x) ≡ leb max-steps (getD l steps-word 0)
   unfolding step-too-many sheet-of blocks-at step-count
   steps-many (reading.blank p) x = rw (p .zeros opened-word (omega arith), p .zeros steps-word (omega arith))
   steps-many (reading.begun p) x = rw (p .counted)
+
+module _ (l : List ℕ) (p : Progress l) where
+  pub function-placed : (a b c d e : ℕ) → Placed (so-far l) (function-record a b c d e) (record { misplaced = not (eqb (getD l begun-word 0) 0); surplus = false })
+  unfolding step-too-many
+  function-placed a b c d e = record { where-it-stands = function-place l p a b c d e; how-many = refl }
+
+  pub typed-placed : (n : ℕ) → Placed (so-far l) (typed-record n) (record { misplaced = eqb (getD l begun-word 0) 0 || not (eqb (getD l opened-word 0) 0); surplus = false })
+  unfolding step-too-many
+  typed-placed n = record { where-it-stands = typed-place l p n; how-many = refl }
+
+  pub block-placed : (ns : List ℕ) → Placed (so-far l) (block-record ns) (record { misplaced = leb (getD l blocks-word 0) (getD l opened-word 0); surplus = false })
+  unfolding step-too-many
+  block-placed ns = record { where-it-stands = block-place l p ns; how-many = refl }
+
+  pub step-placed : (place : Place) → place ≡ step-place l → (x : Step) → Placed (so-far l) (step-record x) place
+  step-placed place e x = rw e (record { where-it-stands = step-out l p x; how-many = rw (sheet-so-far l p) (steps-many l p x) })
 
 -- what a line is held against
 
@@ -106,9 +141,6 @@ module _ (l : List ℕ) where
   pub counted-of : Counted (sheet-of l) (counts-of l)
   unfolding sheet-of
   counted-of = record { regs = refl; slots = refl; vregs = refl; blocks = refl }
-
-  pub counted-by : (counts : Counts) → counts ≡ counts-of l → Counted (sheet-of l) counts
-  counted-by counts e = rw e counted-of
 
   pub counts-within : Progress l → CountsWithin (counts-of l)
   counts-within (reading.blank p) =
@@ -123,7 +155,18 @@ module _ (l : List ℕ) where
   unfolding sheet-of
   typed-by = record { agrees = λ n h. listed-marked (region typed-base typed-words l) n }
 
-  pub least-of : Progress l → Least (sheet-of l) (getD l least-word 0)
+  least-of : Progress l → Least (sheet-of l) (getD l least-word 0)
   unfolding sheet-of
   least-of (reading.blank p) = record { agrees = λ n. rw (none-typed l p, p .zeros least-word (omega arith)) (ascending-one n) }
   least-of (reading.begun p) = record { agrees = p .least }
+
+-- the same of the sheet so far
+module _ (l : List ℕ) (p : Progress l) where
+  pub so-far-counted : (counts : Counts) → counts ≡ counts-of l → Counted (so-far-of (so-far l)) counts
+  so-far-counted counts e = rw (sheet-so-far l p, e) (counted-of l)
+
+  pub so-far-typed : TypedBy (so-far-of (so-far l)) (region typed-base typed-words l)
+  so-far-typed = rw (sheet-so-far l p) (typed-by l)
+
+  pub so-far-least : Least (so-far-of (so-far l)) (getD l least-word 0)
+  so-far-least = rw (sheet-so-far l p) (least-of l p)

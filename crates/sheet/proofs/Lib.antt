@@ -4,7 +4,6 @@ pub mod LawsHeader
 pub mod LawsBody
 pub mod LawsJudged
 pub mod LawsProgress
-pub mod LawsLines
 pub mod LawsActions
 pub mod LawsOperands
 pub mod LawsLetters

@@ -1,6 +1,5 @@
 -- How far reading has come, what one line does to the loaded words, and what loading a sheet promises.
 use mathlib.Core.Path.{_≡_}
-use mathlib.Core.Bool.{Bool, cond}
 use mathlib.Core.List.{List, [], _∷_, _++_}
 use mathlib.Core.Option.{Option, some}
 use Prim.Native.Nat.{ℕ, _+_, _-_, _≤_, _<_}
@@ -9,15 +8,15 @@ use lib.ListN.{length, getD}
 use Rattle.lists.specs.Region.{region}
 use Rattle.paper.specs.Text.{Bytes, line-feed}
 use Rattle.paper.specs.Sheet.{Sheet, reference-typed}
-use Rattle.paper.specs.Limits.{max-sheet}
-use Rattle.paper.specs.Refusals.{Record, step-record, Reading, loaded, refused, good, bad, out-of-place, step-too-many, step-count, ascending, add-record, read-record, read}
+use Rattle.paper.specs.Limits.{max-steps, max-sheet}
+use Rattle.paper.specs.Refusals.{Record, Reading, loaded, refused, good, bad, step-count, ascending, add-record, read-record, read}
 use Rattle.paper.specs.Refusals as paper
 use Rattle.layout.specs.Layout.{regs-word, slots-word, vregs-word, blocks-word, opened-word, steps-word, least-word, begun-word, typed-base, typed-words, block-base, all-words}
 use Rattle.fields.specs.Fields.{line-end}
-use Rattle.steps.specs.Actions.{step-of, Ranged, Honest, Packs}
+use Rattle.steps.specs.Actions.{Ranged, Honest, Packs}
 use Rattle.steps.specs.declared.Action.{Action}
-use Rattle.records.specs.Records.{Told}
 use Rattle.records.specs.declared.Counts.{Counts}
+use Rattle.records.specs.declared.Place.{Place}
 use Rattle.sheet.specs.Loaded.{first-step, step-total, blocks-at, marked-from, sheet-of, so-far, Bounds, Loaded}
 use Rattle.sheet.specs.declared.Lined as Lined
 use Rattle.sheet.specs.declared.Lined.the-variants as lined
@@ -53,6 +52,10 @@ pub data Progress (words : List ℕ) : Type 0 where
 abbrev pub counts-of : List ℕ → Counts
 counts-of words = record { regs = getD words regs-word 0; slots = getD words slots-word 0; vregs = getD words vregs-word 0; blocks = getD words blocks-word 0 }
 
+-- a step is out of place before the first block, and one too many behind the last that there is room for
+abbrev pub step-place : List ℕ → Place
+step-place words = record { misplaced = eqb (getD words opened-word 0) 0; surplus = leb max-steps (getD words steps-word 0) }
+
 -- the action can be the next step
 pub record Fits (words : List ℕ) (action : Action) : Type 0 where
   pub packs : Packs (getD words steps-word 0) action
@@ -67,14 +70,10 @@ pub record Stored (before after : List ℕ) (r : Record) : Type 0 where
 
 -- one line
 
--- "in a line the lowest number": that of the line by itself (3, 5, 6, 7, 8, or 0 where it breaks none), with 4 and 9
-unfoldable pub lowest-of : (number : ℕ) (out-of-place too-many : Bool) → ℕ
-lowest-of number out-of-place too-many = cond (eqb number 3) 3 (cond out-of-place 4 (cond (eqb number 0) (cond too-many 9 0) number))
-
 -- a good line comes with the place of the next one
 unfoldable pub lined-of : ℕ → paper.Lined → Lined.Lined
 lined-of next (good S) = lined.Good next
-lined-of next (bad number) = lined.Bad number
+lined-of next (bad number) = lined.Bad (record { number = number })
 
 -- behind a good line the words hold the sheet that it makes
 pub record GoodLine (sheet : Bytes) (at : ℕ) (words : List ℕ) (S : Sheet) : Type 0 where
@@ -88,27 +87,11 @@ pub record LineRead (read : Option Record) (sheet : Bytes) (at : ℕ) (before af
   pub same-length : length after ≡ length before
   pub good-line : (S : Sheet) → read-record (so-far before) read ≡ good S → GoodLine sheet at after S
 
--- what is read has its place and its count as the record `r` has
-pub record Alike (read : Option Record) (r : Record) : Type 0 where
-  pub place : (so : Option Sheet) (x : Record) → read ≡ some x → out-of-place so x ≡ out-of-place so r
-  pub many : (S : Sheet) (x : Record) → read ≡ some x → step-too-many S x ≡ step-too-many S r
-
--- a line of which `records` tells a number and the place of its line feed, and that says the action where it breaks nothing
-pub record StepLined (number next : ℕ) (action : Action) (before after : List ℕ) (r : Lined.Lined) : Type 0 where
-  pub lined-step : (read : Option Record) (sheet : Bytes) (at : ℕ)
-      → Alike read (step-record (step-of before action))
-      → Told (sheet-of before) sheet at read number next (step-record (step-of before action))
-      → LineRead read sheet at before after r
-
-abbrev pub number-of-line : Lined.Lined → ℕ
-number-of-line (lined.Good next) = 0
-number-of-line (lined.Bad number) = number
-
 -- a sheet
 
 unfoldable pub loading-of : Reading → Loading.Loading
 loading-of (loaded S) = loading.Loaded
-loading-of (refused number line) = loading.Refused number line
+loading-of (refused refusal) = loading.Refused refusal
 
 -- what loading promises, whatever the words held before. A refusal's words may be anything.
 pub record Load (sheet : Bytes) (before after : List ℕ) (r : Loading.Loading) : Type 0 where

@@ -1,5 +1,5 @@
-// The sheet reader: bytes to loaded words, or the refusal with its number and line. One pass from line to line: `records` reads
-// a line and judges it by itself; here it is held against its place (4) and the count of steps (9), and stored.
+// The sheet reader: bytes to loaded words, or the refusal. One pass from line to line: `records` reads a line and judges it; here
+// is told what the words say of its place, and what it says is stored.
 ghost use mathlib.Core.Path.{_≡_};
 ghost use Prim.Native.Nat.{ℕ, _+_, _*_, _≤_, _<_};
 ghost use lib.ListN.{length, getD, take};
@@ -12,7 +12,7 @@ ghost use Rattle.layout.specs.Layout.{vregs-word, blocks-word, opened-word, ste
 ghost use Rattle.fields.specs.Fields.{field-at, line-at, fields-behind};
 ghost use Rattle.records.specs.Records.{Behind, FunctionWithin, BlockWithin};
 ghost use Rattle.steps.specs.Actions.{step-of};
-ghost use Rattle.sheet.specs.Reading.{SheetText, Blank, Begun, Progress, counts-of, Fits, lowest-of, Stored, LineRead, StepLined, number-of-line, Load};
+ghost use Rattle.sheet.specs.Reading.{SheetText, Blank, Begun, Progress, counts-of, step-place, Fits, Stored, LineRead, Load};
 use layout::BEGUN_WORD;
 use layout::BLOCK_BASE;
 use layout::BLOCK_WORDS;
@@ -33,19 +33,32 @@ use layout::SUCC_TOTAL_WORD;
 use layout::SUCCS_FROM;
 use layout::TYPED_BASE;
 use layout::VREGS_WORD;
+use paper::ILL_FORMED;
+use paper::NO_TEXT;
+use paper::OUT_OF_PLACE;
+use paper::Refusal;
+use records::BlockTold;
+use records::Breach;
+use records::ChangeLine;
 use records::Counts;
+use records::FunctionLine;
+use records::OperationTold;
+use records::PairLine;
+use records::Place;
+use records::SafepointLine;
+use records::TypedLine;
 use steps::Action;
 
-// What loading a sheet comes to: its words stand, or it is refused, by a number and at a line.
+// What loading a sheet comes to: its words stand, or it is refused.
 pub enum Loading {
     Loaded,
-    Refused(u8, usize),
+    Refused(Refusal),
 }
 
-// What a line comes to: the place of the next one, or the number of its refusal.
+// What a line comes to: the place of the next one, or what it breaks.
 pub enum Lined {
     Good(usize),
-    Bad(u8),
+    Bad(Breach),
 }
 
 // Refusal 2: the sheet is empty, too long, or its last byte is not LF.
@@ -84,21 +97,14 @@ fn counts(words: &[u16]) -> Counts
     }
 }
 
-// The one place where a line's own number meets those of its place and of the steps before it.
-fn lowest(number: u32, misplaced: bool, surplus: bool) -> u8
-    requires { ⌜ number ≤ 8 ⌝ }
-    ensures { λ r. ⌜ r ≡ lowest-of number misplaced surplus ⌝ }
+// What the words say of a step: it is out of place before the first block, and the 1,025th is one too many.
+fn step_place(words: &[u16]) -> Place
+    requires { ⌜ all-words ≤ length (now words) ⌝ }
+    ensures { λ r. ⌜ r ≡ step-place (now (words .entry)) ⌝ }
 {
-    if number == 3 {
-        3
-    } else if misplaced {
-        4
-    } else if number != 0 {
-        number as u8
-    } else if surplus {
-        9
-    } else {
-        0
+    Place {
+        misplaced: words[OPENED_WORD] == 0,
+        surplus: MAX_STEPS <= words[STEPS_WORD] as usize,
     }
 }
 
@@ -122,20 +128,32 @@ fn read_function(sheet: &[u8], at: usize, words: &mut [u16]) -> Lined
     requires { ⌜ Behind (now sheet) at × Progress (now words) ⌝ }
     ensures { λ r. ⌜ LineRead (function-of (fields-behind (now (sheet .entry)) at)) (now (sheet .entry)) at (now (words .entry)) (now (words .exit)) r ⌝ }
 {
-    let line = records::function_line(sheet, at);
-    let number = lowest(line.number, words[BEGUN_WORD] != 0, false);
-    if number != 0 {
-        return Lined::Bad(number);
+    let place = Place {
+        misplaced: words[BEGUN_WORD] != 0,
+        surplus: false,
+    };
+    let line = records::function_line(sheet, at, place);
+    match line {
+        FunctionLine::Bad(breach) => Lined::Bad(breach),
+        FunctionLine::Good {
+            regs,
+            slots,
+            vregs,
+            blocks,
+            entry,
+            next,
+        } => {
+            store_function(
+                words,
+                regs as u16,
+                slots as u16,
+                vregs as u16,
+                blocks as u16,
+                entry as u16,
+            );
+            Lined::Good(next + 1)
+        }
     }
-    store_function(
-        words,
-        line.regs as u16,
-        line.slots as u16,
-        line.vregs as u16,
-        line.blocks as u16,
-        line.entry as u16,
-    );
-    Lined::Good(line.next + 1)
 }
 
 // `T`: the name's word, and the least number that the next may have.
@@ -151,17 +169,18 @@ fn read_typed(sheet: &[u8], at: usize, words: &mut [u16]) -> Lined
     requires { ⌜ Behind (now sheet) at × Progress (now words) ⌝ }
     ensures { λ r. ⌜ LineRead (typed-of (fields-behind (now (sheet .entry)) at)) (now (sheet .entry)) at (now (words .entry)) (now (words .exit)) r ⌝ }
 {
-    let line = records::typed_line(sheet, at, counts(words), words[LEAST_WORD] as u32);
-    let number = lowest(
-        line.number,
-        (words[BEGUN_WORD] == 0) | (words[OPENED_WORD] != 0),
-        false,
-    );
-    if number != 0 {
-        return Lined::Bad(number);
+    let place = Place {
+        misplaced: (words[BEGUN_WORD] == 0) | (words[OPENED_WORD] != 0),
+        surplus: false,
+    };
+    let line = records::typed_line(sheet, at, place, counts(words), words[LEAST_WORD] as u32);
+    match line {
+        TypedLine::Bad(breach) => Lined::Bad(breach),
+        TypedLine::Good { n, next } => {
+            add_typed(words, n as usize);
+            Lined::Good(next + 1)
+        }
     }
-    add_typed(words, line.n as usize);
-    Lined::Good(line.next + 1)
 }
 
 fn store_succs(words: &mut [u16], at: usize, succs: [u32; MAX_SUCCS], count: usize)
@@ -193,14 +212,20 @@ fn read_block(sheet: &[u8], at: usize, words: &mut [u16]) -> Lined
     requires { ⌜ Behind (now sheet) at × Progress (now words) ⌝ }
     ensures { λ r. ⌜ LineRead (block-of (fields-behind (now (sheet .entry)) at)) (now (sheet .entry)) at (now (words .entry)) (now (words .exit)) r ⌝ }
 {
-    let line = records::block_line(sheet, at, counts(words));
-    let number = lowest(line.number, words[BLOCKS_WORD] <= words[OPENED_WORD], false);
-    if number != 0 {
-        return Lined::Bad(number);
+    let place = Place {
+        misplaced: words[BLOCKS_WORD] <= words[OPENED_WORD],
+        surplus: false,
+    };
+    let line = records::block_line(sheet, at, place, counts(words));
+    let told = line.told;
+    match told {
+        BlockTold::Bad(breach) => Lined::Bad(breach),
+        BlockTold::Good { count, next } => {
+            let succs = line.succs;
+            add_block(words, succs, count);
+            Lined::Good(next + 1)
+        }
     }
-    let succs = line.succs;
-    add_block(words, succs, line.count);
-    Lined::Good(line.next + 1)
 }
 
 // A step more at the end of the last block.
@@ -215,32 +240,28 @@ fn add_step(words: &mut [u16], action: Action)
     words[STEPS_WORD] = k + 1;
 }
 
-// A line that says a step, by its own number, the place of its line feed and the action.
-fn step_line(words: &mut [u16], number: u32, next: usize, action: Action) -> Lined
-    requires { ⌜ Progress (now words) × (number ≤ 8) × (number ≡ 0 → next < 65536) × (number ≡ 0 → Fits (now words) action) ⌝ }
-    ensures { λ r. ⌜ StepLined number next action (now (words .entry)) (now (words .exit)) r ⌝ }
-{
-    let lowest = lowest(
-        number,
-        words[OPENED_WORD] == 0,
-        MAX_STEPS <= words[STEPS_WORD] as usize,
-    );
-    if lowest != 0 {
-        return Lined::Bad(lowest);
-    }
-    add_step(words, action);
-    Lined::Good(next + 1)
-}
-
 // `S slot reg`
 fn read_spill(sheet: &[u8], at: usize, words: &mut [u16]) -> Lined
     requires { ⌜ Behind (now sheet) at × Progress (now words) ⌝ }
     ensures { λ r. ⌜ LineRead (two-numbers-of spill (fields-behind (now (sheet .entry)) at)) (now (sheet .entry)) at (now (words .entry)) (now (words .exit)) r ⌝ }
 {
-    let line = records::pair_line(sheet, at, words[SLOTS_WORD] as u32, words[REGS_WORD] as u32);
-    let slot = line.a as usize;
-    let reg = line.b as usize;
-    step_line(words, line.number, line.next, Action::Spill { slot, reg })
+    let place = step_place(words);
+    let line = records::pair_line(
+        sheet,
+        at,
+        place,
+        words[SLOTS_WORD] as u32,
+        words[REGS_WORD] as u32,
+    );
+    match line {
+        PairLine::Bad(breach) => Lined::Bad(breach),
+        PairLine::Good { a, b, next } => {
+            let slot = a as usize;
+            let reg = b as usize;
+            add_step(words, Action::Spill { slot, reg });
+            Lined::Good(next + 1)
+        }
+    }
 }
 
 // `L reg slot`
@@ -248,10 +269,23 @@ fn read_reload(sheet: &[u8], at: usize, words: &mut [u16]) -> Lined
     requires { ⌜ Behind (now sheet) at × Progress (now words) ⌝ }
     ensures { λ r. ⌜ LineRead (two-numbers-of reload (fields-behind (now (sheet .entry)) at)) (now (sheet .entry)) at (now (words .entry)) (now (words .exit)) r ⌝ }
 {
-    let line = records::pair_line(sheet, at, words[REGS_WORD] as u32, words[SLOTS_WORD] as u32);
-    let reg = line.a as usize;
-    let slot = line.b as usize;
-    step_line(words, line.number, line.next, Action::Reload { reg, slot })
+    let place = step_place(words);
+    let line = records::pair_line(
+        sheet,
+        at,
+        place,
+        words[REGS_WORD] as u32,
+        words[SLOTS_WORD] as u32,
+    );
+    match line {
+        PairLine::Bad(breach) => Lined::Bad(breach),
+        PairLine::Good { a, b, next } => {
+            let reg = a as usize;
+            let slot = b as usize;
+            add_step(words, Action::Reload { reg, slot });
+            Lined::Good(next + 1)
+        }
+    }
 }
 
 // `M into from`
@@ -259,10 +293,23 @@ fn read_move(sheet: &[u8], at: usize, words: &mut [u16]) -> Lined
     requires { ⌜ Behind (now sheet) at × Progress (now words) ⌝ }
     ensures { λ r. ⌜ LineRead (two-numbers-of move (fields-behind (now (sheet .entry)) at)) (now (sheet .entry)) at (now (words .entry)) (now (words .exit)) r ⌝ }
 {
-    let line = records::pair_line(sheet, at, words[REGS_WORD] as u32, words[REGS_WORD] as u32);
-    let into = line.a as usize;
-    let from = line.b as usize;
-    step_line(words, line.number, line.next, Action::Move { into, from })
+    let place = step_place(words);
+    let line = records::pair_line(
+        sheet,
+        at,
+        place,
+        words[REGS_WORD] as u32,
+        words[REGS_WORD] as u32,
+    );
+    match line {
+        PairLine::Bad(breach) => Lined::Bad(breach),
+        PairLine::Good { a, b, next } => {
+            let into = a as usize;
+            let from = b as usize;
+            add_step(words, Action::Move { into, from });
+            Lined::Good(next + 1)
+        }
+    }
 }
 
 // `C inst slot from to`
@@ -270,25 +317,34 @@ fn read_change(sheet: &[u8], at: usize, words: &mut [u16]) -> Lined
     requires { ⌜ Behind (now sheet) at × Progress (now words) ⌝ }
     ensures { λ r. ⌜ LineRead (change-of (fields-behind (now (sheet .entry)) at)) (now (sheet .entry)) at (now (words .entry)) (now (words .exit)) r ⌝ }
 {
-    let line = records::change_line(sheet, at, counts(words), &words[TYPED_BASE..BLOCK_BASE]);
-    let inst = line.inst;
-    let slot = line.slot as usize;
-    let from = line.from;
-    let to = line.to;
-    step_line(
-        words,
-        line.number,
-        line.next,
-        Action::Change {
+    let place = step_place(words);
+    let counts = counts(words);
+    let line = records::change_line(sheet, at, place, counts, &words[TYPED_BASE..BLOCK_BASE]);
+    match line {
+        ChangeLine::Bad(breach) => Lined::Bad(breach),
+        ChangeLine::Good {
             inst,
             slot,
             from,
             to,
-        },
-    )
+            next,
+        } => {
+            let slot = slot as usize;
+            add_step(
+                words,
+                Action::Change {
+                    inst,
+                    slot,
+                    from,
+                    to,
+                },
+            );
+            Lined::Good(next + 1)
+        }
+    }
 }
 
-// The operands of the next step. Nothing reads them before the step stands.
+// The operands of the next step.
 fn store_operands(words: &mut [u16], at: usize, operands: [u16; OPERAND_WORDS])
     requires { ⌜ at + operand-words ≤ length (now words) ⌝ }
     ensures { λ _. ⌜ now (words .exit) ≡ over at operand-words (λ k x. getD operands k 0) (now (words .entry)) ⌝ }
@@ -305,24 +361,28 @@ fn read_operation(sheet: &[u8], at: usize, words: &mut [u16]) -> Lined
     requires { ⌜ Behind (now sheet) at × Progress (now words) ⌝ }
     ensures { λ r. ⌜ LineRead (operation-of (fields-behind (now (sheet .entry)) at)) (now (sheet .entry)) at (now (words .entry)) (now (words .exit)) r ⌝ }
 {
-    let line = records::operation_line(sheet, at, counts(words), &words[TYPED_BASE..BLOCK_BASE]);
-    let place = OPERAND_BASE + words[STEPS_WORD] as usize * OPERAND_WORDS;
-    let operands = line.operands;
-    store_operands(words, place, operands);
-    let inst = line.inst;
-    let uses = line.n;
-    let defs = line.m;
-    step_line(
-        words,
-        line.number,
-        line.next,
-        Action::Operation {
-            inst,
-            at: place,
-            uses,
-            defs,
-        },
-    )
+    let place = step_place(words);
+    let counts = counts(words);
+    let line = records::operation_line(sheet, at, place, counts, &words[TYPED_BASE..BLOCK_BASE]);
+    let told = line.told;
+    match told {
+        OperationTold::Bad(breach) => Lined::Bad(breach),
+        OperationTold::Good { inst, n, m, next } => {
+            let from = OPERAND_BASE + words[STEPS_WORD] as usize * OPERAND_WORDS;
+            let operands = line.operands;
+            store_operands(words, from, operands);
+            add_step(
+                words,
+                Action::Operation {
+                    inst,
+                    at: from,
+                    uses: n,
+                    defs: m,
+                },
+            );
+            Lined::Good(next + 1)
+        }
+    }
 }
 
 // `P inst slot..`
@@ -330,15 +390,15 @@ fn read_safepoint(sheet: &[u8], at: usize, words: &mut [u16]) -> Lined
     requires { ⌜ Behind (now sheet) at × Progress (now words) ⌝ }
     ensures { λ r. ⌜ LineRead (safepoint-of (fields-behind (now (sheet .entry)) at)) (now (sheet .entry)) at (now (words .entry)) (now (words .exit)) r ⌝ }
 {
-    let line = records::safepoint_line(sheet, at, counts(words));
-    let inst = line.inst;
-    let mask = line.mask;
-    step_line(
-        words,
-        line.number,
-        line.next,
-        Action::Safepoint { inst, mask },
-    )
+    let place = step_place(words);
+    let line = records::safepoint_line(sheet, at, place, counts(words));
+    match line {
+        SafepointLine::Bad(breach) => Lined::Bad(breach),
+        SafepointLine::Good { inst, mask, next } => {
+            add_step(words, Action::Safepoint { inst, mask });
+            Lined::Good(next + 1)
+        }
+    }
 }
 
 // One line, by its letter; none is refusal 3.
@@ -356,18 +416,8 @@ fn read_line(sheet: &[u8], at: usize, words: &mut [u16]) -> Lined
         b'C' => read_change(sheet, at + 1, words),
         b'O' => read_operation(sheet, at + 1, words),
         b'P' => read_safepoint(sheet, at + 1, words),
-        _ => Lined::Bad(3),
+        _ => Lined::Bad(Breach { number: ILL_FORMED }),
     }
-}
-
-// The number of a refused line, 0 for a good one.
-fn number_of(lined: Lined) -> u8
-    ensures { λ r. ⌜ r ≡ number-of-line lined ⌝ }
-{
-    let Lined::Bad(number) = lined else {
-        return 0;
-    };
-    number
 }
 
 // The sheet's words, or its refusal. Whatever the words held before; a refusal's words may be anything, and the caller clears
@@ -377,21 +427,34 @@ pub fn load(sheet: &[u8], words: &mut [u16]) -> Loading
     ensures { λ r. ⌜ Load (now (sheet .entry)) (now (words .entry)) (now (words .exit)) r ⌝ }
 {
     if no_text(sheet) {
-        return Loading::Refused(2, 0);
+        return Loading::Refused(Refusal {
+            number: NO_TEXT,
+            line: 0,
+        });
     }
     scratch::clear_words(&mut words[..BLOCK_BASE]);
     let mut at = 0;
     let mut line: usize = 1;
     while at < sheet.len() {
         let lined = read_line(sheet, at, words);
-        let Lined::Good(next) = lined else {
-            return Loading::Refused(number_of(lined), line);
-        };
-        at = next;
-        line += 1;
+        match lined {
+            Lined::Bad(breach) => {
+                return Loading::Refused(Refusal {
+                    number: breach.number,
+                    line,
+                });
+            }
+            Lined::Good(next) => {
+                at = next;
+                line += 1;
+            }
+        }
     }
     if (words[BEGUN_WORD] == 0) | (words[OPENED_WORD] < words[BLOCKS_WORD]) {
-        return Loading::Refused(4, line);
+        return Loading::Refused(Refusal {
+            number: OUT_OF_PLACE,
+            line,
+        });
     }
     Loading::Loaded
 }

@@ -11,6 +11,7 @@ use Rattle.paper.specs.Sheet.{Sheet}
 use Rattle.paper.specs.Limits.{report-size}
 use Rattle.paper.specs.Report.{by-block, names-lines, missing-allocations}
 use Rattle.paper.specs.Answer.{too-short, laid, zeros}
+use Rattle.paper.specs.declared.Refusal.{Refusal}
 use Rattle.paper.specs.declared.Rule.{Rule}
 use Rattle.layout.specs.Layout.{blocks-word, run-words}
 use Rattle.sheet.specs.Loaded.{sheet-of, Loaded}
@@ -32,8 +33,8 @@ use Rattle.states.specs.Stated.{longest-text, Written, HoldsStates}
 -- the text of a sheet
 
 -- a sheet that is refused has none
-pub refused-none : {sheet : Bytes} {before after : List ℕ} {r : Loading.Loading} {number line : ℕ} (rule : Rule) → Load sheet before after r
-    → r ≡ loading.Refused number line → entry-states rule sheet ≡ []
+pub refused-none : {sheet : Bytes} {before after : List ℕ} {r : Loading.Loading} {refusal : Refusal} (rule : Rule) → Load sheet before after r
+    → r ≡ loading.Refused refusal → entry-states rule sheet ≡ []
 unfolding entry-states states-after
 refused-none rule l e = rw (refuses-sheet l e)
 

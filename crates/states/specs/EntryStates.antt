@@ -54,7 +54,7 @@ unless-missing [] text = text
 unless-missing (l ∷ ls) text = []
 
 unfoldable pub states-after : Rule → Reading → Bytes
-states-after rule (refused number line) = []
+states-after rule (refused refusal) = []
 states-after rule (loaded S) = unless-missing (missing-allocations S) (by-block (block-text rule S) 0 (S .blocks))
 
 unfoldable pub entry-states : Rule → Bytes → Bytes

@@ -18,6 +18,7 @@ use Rattle.paper.specs.Refusals.{Record, function-record, typed-record, block-r
 use Rattle.paper.specs.Report.{Line, faults, report-text}
 use Rattle.paper.specs.Answer.{accepted, said-of, said-after, answer}
 use Rattle.paper.specs.Walks.{In, here, there}
+use Rattle.paper.specs.declared.Refusal.{Refusal}
 use Rattle.paper.specs.declared.Rule.{Rule}
 use Rattle.lists.specs.Split.{or-left, or-right}
 use Rattle.walks.specs.Choices.{in-nil, in-append, some-not-none}
@@ -180,17 +181,17 @@ line-sound so-far line S g e = at (record-of (fields line)) e
 pub loaded-inj : {S R : Sheet} → loaded S ≡ loaded R → S ≡ R
 loaded-inj e = cc
 
-refused-loaded : {Q : Type 0} {number line : ℕ} {S : Sheet} → refused number line ≡ loaded S → Q
+refused-loaded : {Q : Type 0} {refusal : Refusal} {S : Sheet} → refused refusal ≡ loaded S → Q
 refused-loaded e = let z : _≡_ {A = ℕ} 0 1 = cc in absurd (omega arith)
 
 lines-sound : (ls : List Bytes) (line : ℕ) (so-far : Option Sheet) (S : Sheet) → SoundSoFar so-far → read-lines line so-far ls ≡ loaded S → Sound S
 unfolding read-lines read-end carry-on SoundSoFar
 lines-sound [] line none S g e = refused-loaded e
-lines-sound [] line (some R) S g e = go (ltb (length (R .body)) (R .blocks)) e
+lines-sound [] line (some R) S g e = go _ (ltb (length (R .body)) (R .blocks)) e
   where
-    go : (b : Bool) → cond b (refused 4 line) (loaded R) ≡ loaded S → Sound S
-    go true f = refused-loaded f
-    go false f = subst Sound (loaded-inj f) g
+    go : (refusal : Refusal) (b : Bool) → cond b (refused refusal) (loaded R) ≡ loaded S → Sound S
+    go refusal true f = refused-loaded f
+    go refusal false f = subst Sound (loaded-inj f) g
 lines-sound (l ∷ ls) line so-far S g e = at (read-line so-far l) refl e (λ R h. lines-sound ls (suc line) (some R) S h)
   where
     at : (o : Lined) → read-line so-far l ≡ o → carry-on line o (λ R. read-lines (suc line) (some R) ls) ≡ loaded S
@@ -206,11 +207,11 @@ block-at (B ∷ body) (suc b) = ⊎-map there (λ e. e) (block-at body b)
 
 read-sound : (bytes : Bytes) (S : Sheet) → read bytes ≡ loaded S → Sound S
 unfolding read SoundSoFar
-read-sound bytes S e = go (no-text bytes) e
+read-sound bytes S e = go _ (no-text bytes) e
   where
-    go : (b : Bool) → cond b (refused 2 0) (read-lines 1 none (lines bytes)) ≡ loaded S → Sound S
-    go true f = refused-loaded f
-    go false f = lines-sound (lines bytes) 1 none S tt f
+    go : (refusal : Refusal) (b : Bool) → cond b (refused refusal) (read-lines 1 none (lines bytes)) ≡ loaded S → Sound S
+    go refusal true f = refused-loaded f
+    go refusal false f = lines-sound (lines bytes) 1 none S tt f
 
 pub read-closed : (bytes : Bytes) (S : Sheet) → read bytes ≡ loaded S → Closed S
 read-closed bytes S e = record { entry-in = read-sound bytes S e .entry-in; succs-in = λ b s i. go s (block-at (S .body) b) i }
@@ -240,7 +241,7 @@ accepted-sheet rule bytes text e = at (read bytes) refl e
 
     at : (o : Reading) → read bytes ≡ o → said-after rule o ≡ accepted text → (S : Sheet) × ((read bytes ≡ loaded S) × (faults rule S ≡ []))
     at (loaded S) h f = none-found S h (faults rule S) refl f
-    at (refused number line) h f = let z : _≡_ {A = ℕ} 0 1 = cc in absurd (omega arith)
+    at (refused refusal) h f = let z : _≡_ {A = ℕ} 0 1 = cc in absurd (omega arith)
 
 pub sheet-accepted : (rule : Rule) (bytes : Bytes) (S : Sheet) → read bytes ≡ loaded S → faults rule S ≡ [] → answer rule bytes ≡ accepted (report-text rule [])
 unfolding answer said-after said-of

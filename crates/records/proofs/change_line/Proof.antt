@@ -1,74 +1,64 @@
 -- `records::change_line` meets its contract: within the limits a name fits nine bits and its mark is that of `T`, so that the tests
 -- are those of refusals 5 and 8; beyond a limit 5 is the lowest, whatever the marks.
-use mathlib.Core.Path.{_≡_, sym, _∙_}
-use mathlib.Core.Bool.{not, Bool·beq}
+use mathlib.Core.Path.{_≡_}
+use mathlib.Core.Option.{Option}
 use native.Mathlib.Omega.{arith}
-use borrow.Author.Tests.{not-true, not-false}
-use mathlib.Core.Option.{some}
-use Rattle.paper.specs.Sheet.{Sheet, change}
-use Rattle.paper.specs.Refusals.{step-record}
-use Rattle.records.specs.Records.{verdict, name-of-code, Counted, TypedBy}
+use Rattle.paper.specs.Sheet.{Sheet, Step, change}
+use Rattle.paper.specs.Refusals.{step-record, so-far-of, first-holding, conditions}
+use Rattle.records.specs.Records.{judged-of, change-line, name-of-code, Placed, Counted, TypedBy}
 use Rattle.records.specs.Parts.{ChangeRead}
-use Rattle.records.proofs.LawsTold.{no-form, refused-line, well-formed}
-use Rattle.records.proofs.LawsSteps.{ChangeClear, change-judged, change-clear, change-within}
+use Rattle.records.specs.declared.Change.the-variants.{Value}
+use Rattle.records.specs.declared.Judged.the-variants.{Passes}
+use Rattle.records.proofs.LawsTold.{clear-of, judged-by, ill-formed, breaks, passes, in-place}
+use Rattle.records.proofs.LawsSteps.{Within, change-tested, change-clear, change-within}
 use borrow.Author.Needs.{needs}
 use Rattle.records.proofs.change_line.Statement.{statement}
 use Rattle.records.proofs.change_line.Tie as tie
 
--- the places: past the first test, both names judged; what was read, and what was given
-abbrev beyond-of : tie.After-lowest → tie.After-name-beyond2
-beyond-of c = c .before .before .before
+-- the places: what was read, and what was given
+abbrev read-of : tie.After-lowest → tie.After-read
+read-of c = c .before .before .before .before .before .before .before
 
-abbrev good-of : tie.After-lowest → tie.Else1
-good-of c = beyond-of c .before .before .before
+abbrev start-of : tie.After-read → tie.Start
+start-of c = c .before .before .before .before .before
 
-abbrev read-of : tie.Else1 → tie.After-read-change
-read-of c = c .before .before
+got : (c : tie.After-read) → let s = start-of c .args in let r = c .read in
+    ChangeRead (s .s .now) (s .at) (Value (r .given .0 .0) (r .given .0 .1 .0) (r .given .0 .1 .1 .0) (r .given .0 .1 .1 .1 .0) (r .given .0 .1 .1 .1 .1 .0))
+got c = rw (c .read .given .1) at (c .before .before .read-change .ensures)
 
-abbrev start-of : tie.Else1 → tie.Start
-start-of c = read-of c .before .before .before
-
-got : (c : tie.Else1) → ChangeRead (start-of c .args .s .now) (start-of c .args .at) (read-of c .read-change .result)
-got c = c .before .before .read-change .ensures .0 (not-false _ (c .if1 .left))
-
--- the number is the paper's for what was read
-judged : (l : tie.After-lowest) → let s = start-of (good-of l) .args in let v = read-of (good-of l) .read-change .result in
-    (S : Sheet) → Counted S (s .counts) → TypedBy S (s .typed .now)
-    → l .lowest .result ≡ verdict S (some (step-record
-    (change (v .inst) (v .slot) (name-of-code (v .from)) (name-of-code (v .to)))))
-judged l S h t =
+-- the tests are the paper's
+judged : (l : tie.After-lowest) → let s = start-of (read-of l) .args in let r = read-of l .read in
+    (so : Option Sheet) → ((x : Step) → Placed so (step-record x) (s .place)) → Counted (so-far-of so) (s .counts) → TypedBy (so-far-of so) (s .typed .now)
+    → l .lowest .result ≡ judged-of (first-holding (conditions so (step-record
+    (change (r .given .0 .0) (r .given .0 .1 .0) (name-of-code (r .given .0 .1 .1 .0)) (name-of-code (r .given .0 .1 .1 .1 .0))))))
+judged l so p h t =
     let f = l .before in
-    let n = beyond-of l in
-    change-judged (start-of (good-of l) .pre .2) _ _ _ _ (n .before .name-beyond .ensures) (n .name-beyond2 .ensures) h t
+    let n = f .before .before in
+    judged-by
+    (change-tested (start-of (read-of l) .pre .2) _ _ _ _ (n .before .name-beyond .ensures) (n .name-beyond2 .ensures) (p _) h t
     (f .before .refers .ensures)
-    (f .refers2 .ensures)
+    (f .refers2 .ensures))
     (l .lowest .ensures)
 
--- where nothing is broken the values are within the counts
-clear : (l : tie.After-lowest) → l .lowest .result ≡ 0
-    → let v = read-of (good-of l) .read-change .result in
-    ChangeClear (start-of (good-of l) .args .counts) (v .inst) (v .slot) (v .from) (v .to)
-clear l z =
-    let f = l .before in
-    let n = beyond-of l in
-    let v = read-of (good-of l) .read-change .result in
-    change-clear (start-of (good-of l) .pre .2) (v .inst) (v .slot) (v .from) (v .to) (n .before .name-beyond .ensures)
-    (n .name-beyond2 .ensures)
-    (not (Bool·beq (f .before .refers .result) (f .refers2 .result)))
-    (l .lowest .ensures)
-    z
+-- where it passes the values are within the counts
+within : (l : tie.After-lowest) → l .lowest .result ≡ Passes → let r = read-of l .read in
+    Within (start-of (read-of l) .args .counts) (r .given .0 .0) (r .given .0 .1 .0) (r .given .0 .1 .1 .0) (r .given .0 .1 .1 .1 .0)
+within l z =
+    let n = l .before .before .before in
+    change-clear (start-of (read-of l) .pre .2) _ _ _ _ (n .before .name-beyond .ensures) (n .name-beyond2 .ensures) (clear-of (l .lowest .ensures) z .within)
 
 read-change-requires : tie.Need-read-change-requires
-read-change-requires c κs = search needs
+read-change-requires c κs = c .before .before .pre .0
 
-no-change-requires : tie.Need-no-change-requires
-no-change-requires c κs = search needs
+enum-known-read : tie.Need-enum-known-read
+enum-known-read c = search needs
+
+enum-told : tie.Need-enum-told
+enum-told c = search needs
 
 returns : tie.Need-returns
-returns c = (
-  λ S h t. no-form (c .no-change .ensures .0) (c .before .before .before .read-change .ensures .1 (not-true _ (c .before .if1 .taken))),
-  λ z. absurd (omega (arith, c .no-change .ensures .0)),
-)
+unfolding change-line
+returns c = (λ so p h t. ill-formed so _ (rw (c .enum-told .given .1) at (c .before .before .read-change .ensures)), tt)
 
 name-beyond-requires : tie.Need-name-beyond-requires
 name-beyond-requires c κs = search needs
@@ -85,36 +75,39 @@ refers-requires-2 c κs = search needs
 lowest-requires : tie.Need-lowest-requires
 lowest-requires c κs = search needs
 
-no-change-requires-2 : tie.Need-no-change-requires-2
-no-change-requires-2 c κs = search needs
+enum-known-judged : tie.Need-enum-known-judged
+enum-known-judged c = search needs
 
-returns-2 : tie.Need-returns-2
-returns-2 c =
-    let l = c .before .before in
-    let g = got (good-of l) in (
-      λ S h t. refused-line (c .no-change2 .ensures .0) (c .no-change2 .ensures .1) (g .says) (judged l S h t) (c .before .if2 .taken)
-          (g .ends),
-      λ z. absurd (c .before .if2 .taken (sym (c .no-change2 .ensures .0) ∙ z)),
-    )
+enum-told-2 : tie.Need-enum-told-2
+enum-told-2 c = search needs
 
-cast-t18 : tie.Need-cast-t18
-cast-t18 c = omega (arith, clear (c .before) (c .if2 .left) .inst-most)
+cast-t24 : tie.Need-cast-t24
+cast-t24 c = omega (arith, within (c .before .before) (c .enum-told2 .given .1) .inst-most)
 
 name-word-requires : tie.Need-name-word-requires
-name-word-requires c κs = clear (c .before) (c .if2 .left) .from-fits
+name-word-requires c κs = within (c .before .before) (c .enum-told2 .given .1) .from-fits
 
 name-word-requires-2 : tie.Need-name-word-requires-2
-name-word-requires-2 c κs = clear (c .before .before) (c .before .if2 .left) .to-fits
+name-word-requires-2 c κs = let e = c .before in within (e .before .before) (e .enum-told2 .given .1) .to-fits
+
+returns-2 : tie.Need-returns-2
+unfolding change-line
+returns-2 c =
+    let l = c .before .before .before in
+    (λ so p h t. breaks so (got (read-of l) .0) (judged l so p h t) _ (c .before .judged .given .1), tt)
 
 returns-3 : tie.Need-returns-3
+unfolding change-line
 returns-3 c =
-    let l = c .before .before .before in
-    let z = c .before .before .if2 .left in
-    let g = got (good-of l) in (
-      λ S h t.
-          rw (c .before .name-word .ensures, c .name-word2 .ensures, clear l z .from-means, clear l z .to-means)
-          (well-formed (g .says) (judged l S h t) (g .ends)),
-      λ y. change-within (clear l z) (c .before .name-word .ensures) (c .name-word2 .ensures),
+    let e = c .before .before in
+    let l = e .before .before in
+    let z = e .enum-told2 .given .1 in
+    let g = got (read-of l) in
+    let w = within l z in (
+      λ so p h t.
+          rw (c .before .name-word .ensures, c .name-word2 .ensures, w .from-means, w .to-means)
+          (passes so (g .0) (judged l so p h t) z (g .1 .place)),
+      (in-place (g .1) (clear-of (l .lowest .ensures) z), change-within w (c .before .name-word .ensures) (c .name-word2 .ensures)),
     )
 
 pub change-line-spec : {M : Type 1} → statement M
@@ -122,16 +115,18 @@ change-line-spec =
     tie.close
     (tie.spec
     read-change-requires
-    no-change-requires
+    enum-known-read
+    enum-told
     returns
     name-beyond-requires
     name-beyond-requires-2
     refers-requires
     refers-requires-2
     lowest-requires
-    no-change-requires-2
-    returns-2
-    cast-t18
+    enum-known-judged
+    enum-told-2
+    cast-t24
     name-word-requires
     name-word-requires-2
+    returns-2
     returns-3)

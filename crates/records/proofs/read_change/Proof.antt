@@ -1,7 +1,5 @@
 -- `records::read_change` meets its contract: the fields are taken in the paper's order, each where the last one ended; a bad one,
 -- or one too many, leaves no `C`.
-use mathlib.Core.Path.{_≡_, sym, _∙_}
-use mathlib.Core.Bool.{Bool, true, false, true≢false}
 use Rattle.fields.specs.declared.Number.the-variants.{Value}
 use Rattle.records.specs.Records.{NumberBehind, NameBehind}
 use Rattle.records.proofs.LawsSteps.{change-no-inst, change-no-slot, change-no-from, change-no-to, change-too-long, change-says, change-ends}
@@ -41,10 +39,6 @@ got-to : (c : tie.After-to) → let f = from-of c in
     (Value (c .to .given .0 .0) (c .to .given .0 .1 .0))
 got-to c = rw (c .to .given .1) at (c .before .before .name-behind2 .ensures)
 
--- a bad `C` tells nothing of a good one
-not-good : {good : Bool} {A : Type 0} → good ≡ false → good ≡ true → A
-not-good bad e = absurd (true≢false (sym e ∙ bad))
-
 number-behind-requires : tie.Need-number-behind-requires
 number-behind-requires c κs = search needs
 
@@ -54,14 +48,8 @@ enum-known-inst c = search needs
 enum-told : tie.Need-enum-told
 enum-told c = search needs
 
-bad-change-requires : tie.Need-bad-change-requires
-bad-change-requires c κs = search needs
-
 returns : tie.Need-returns
-returns c = (
-  not-good (c .bad-change .ensures .0),
-  λ e. change-no-inst _ _ (rw (c .before .enum-told .given .1) at (c .before .before .before .number-behind .ensures)),
-)
+returns c = change-no-inst _ _ (rw (c .enum-told .given .1) at (c .before .before .number-behind .ensures))
 
 number-behind-requires-2 : tie.Need-number-behind-requires-2
 number-behind-requires-2 c κs = got-inst (c .before) .0 .behind
@@ -72,15 +60,10 @@ enum-known-slot c = search needs
 enum-told-2 : tie.Need-enum-told-2
 enum-told-2 c = search needs
 
-bad-change-requires-2 : tie.Need-bad-change-requires-2
-bad-change-requires-2 c κs = search needs
-
 returns-2 : tie.Need-returns-2
 returns-2 c =
-    let k = c .before .before .before in (
-      not-good (c .bad-change2 .ensures .0),
-      λ e. change-no-slot (got-inst (k .before .before) .0) (rw (c .before .enum-told2 .given .1) at (k .number-behind2 .ensures)),
-    )
+    let k = c .before .before in
+    change-no-slot (got-inst (k .before .before) .0) (rw (c .enum-told2 .given .1) at (k .number-behind2 .ensures))
 
 name-behind-requires : tie.Need-name-behind-requires
 name-behind-requires c κs = got-slot (c .before) .0 .behind
@@ -91,15 +74,11 @@ enum-known-from c = search needs
 enum-told-3 : tie.Need-enum-told-3
 enum-told-3 c = search needs
 
-bad-change-requires-3 : tie.Need-bad-change-requires-3
-bad-change-requires-3 c κs = search needs
-
 returns-3 : tie.Need-returns-3
 returns-3 c =
-    let f = c .before .before .before in
+    let f = c .before .before in
     let k = f .before .before in
-    let told = rw (c .before .enum-told3 .given .1) at (f .name-behind .ensures) in
-    (not-good (c .bad-change3 .ensures .0), λ e. change-no-from (got-inst (inst-of k) .0) (got-slot k .0) told)
+    change-no-from (got-inst (inst-of k) .0) (got-slot k .0) (rw (c .enum-told3 .given .1) at (f .name-behind .ensures))
 
 name-behind-requires-2 : tie.Need-name-behind-requires-2
 name-behind-requires-2 c κs = got-from (c .before) .0 .behind
@@ -110,31 +89,22 @@ enum-known-to c = search needs
 enum-told-4 : tie.Need-enum-told-4
 enum-told-4 c = search needs
 
-bad-change-requires-4 : tie.Need-bad-change-requires-4
-bad-change-requires-4 c κs = search needs
-
 returns-4 : tie.Need-returns-4
 returns-4 c =
-    let t = c .before .before .before in
+    let t = c .before .before in
     let f = t .before .before in
     let k = slot-of f in
-    let told = rw (c .before .enum-told4 .given .1) at (t .name-behind2 .ensures) in
-    (not-good (c .bad-change4 .ensures .0), λ e. change-no-to (got-inst (inst-of k) .0) (got-slot k .0) (got-from f .0) told)
+    change-no-to (got-inst (inst-of k) .0) (got-slot k .0) (got-from f .0) (rw (c .enum-told4 .given .1) at (t .name-behind2 .ensures))
 
 shared-slice-read-if1 : tie.Need-shared-slice-read-if1
 shared-slice-read-if1 c = got-to (c .before .before) .0 .behind .inside
 
-bad-change-requires-5 : tie.Need-bad-change-requires-5
-bad-change-requires-5 c κs = search needs
-
 returns-5 : tie.Need-returns-5
 returns-5 c =
-    let t = c .before .before .before .before in
+    let t = c .before .before .before in
     let f = from-of t in
-    let k = slot-of f in (
-      not-good (c .bad-change5 .ensures .0),
-      λ e. change-too-long (got-inst (inst-of k) .0) (got-slot k .0) (got-from f .0) (got-to t .0) (c .before .if1 .taken),
-    )
+    let k = slot-of f in
+    change-too-long (got-inst (inst-of k) .0) (got-slot k .0) (got-from f .0) (got-to t .0) (c .if1 .taken)
 
 returns-6 : tie.Need-returns-6
 returns-6 c =
@@ -142,11 +112,8 @@ returns-6 c =
     let f = from-of t in
     let k = slot-of f in
     let i = got-inst (inst-of k) .0 in (
-      λ e. record {
-        says = change-says i (got-slot k .0) (got-from f .0) (got-to t .0) (c .if1 .left);
-        ends = change-ends i (got-slot k .0) (got-from f .0) (got-to t .0) (c .if1 .left);
-      },
-      λ e. absurd (true≢false e),
+      change-says i (got-slot k .0) (got-from f .0) (got-to t .0) (c .if1 .left),
+      change-ends i (got-slot k .0) (got-from f .0) (got-to t .0) (c .if1 .left),
     )
 
 pub read-change-spec : {M : Type 1} → statement M
@@ -156,24 +123,19 @@ read-change-spec =
     number-behind-requires
     enum-known-inst
     enum-told
-    bad-change-requires
     returns
     number-behind-requires-2
     enum-known-slot
     enum-told-2
-    bad-change-requires-2
     returns-2
     name-behind-requires
     enum-known-from
     enum-told-3
-    bad-change-requires-3
     returns-3
     name-behind-requires-2
     enum-known-to
     enum-told-4
-    bad-change-requires-4
     returns-4
     shared-slice-read-if1
-    bad-change-requires-5
     returns-5
     returns-6)

@@ -1,7 +1,6 @@
 -- `records::read_operands` meets its contract: the group is the operands read and the `n - count` behind `i`, one fewer each turn;
 -- the first 8 of those read are kept, and a bad one leaves no group.
-use mathlib.Core.Path.{refl, sym}
-use mathlib.Core.Bool.{true≢false}
+use mathlib.Core.Path.{refl}
 use mathlib.Core.Logic.{⊎-elim}
 use Prim.Native.Nat.{_-_}
 use native.Mathlib.Omega.{arith}
@@ -11,10 +10,10 @@ use Rattle.records.proofs.read_operands.Statement.{statement}
 use Rattle.records.proofs.read_operands.Tie as tie
 
 abbrev Inv-loop : tie.InvT-loop
-Inv-loop s at names₀ registers₀ n first count₀ i₀ names registers count i = Grouping s first n count names registers i
+Inv-loop s at names₀ registers₀ count₀ n first i₀ names registers count i = Grouping s first n count names registers i
 
 abbrev μ-loop : tie.MeasureT-loop
-μ-loop s at names₀ registers₀ n first count₀ i₀ names registers count i = n - count
+μ-loop s at names₀ registers₀ count₀ n first i₀ names registers count i = n - count
 
 number-behind-requires : tie.Need-number-behind-requires Inv-loop μ-loop
 number-behind-requires c κs = search needs
@@ -26,7 +25,7 @@ enum-told : tie.Need-enum-told Inv-loop μ-loop
 enum-told c = search needs
 
 returns : tie.Need-returns Inv-loop μ-loop
-returns c = (λ e. absurd (true≢false (sym e)), λ e. group-uncounted _ _ (rw (c .enum-told .given .1) at (c .before .before .number-behind .ensures)))
+returns c = group-uncounted _ _ (rw (c .enum-told .given .1) at (c .before .before .number-behind .ensures))
 
 loop-holds : tie.Need-loop-holds Inv-loop μ-loop
 loop-holds c =
@@ -50,10 +49,8 @@ returns-2 c =
     let o = c .before .before in
     let l = o .before .before in
     let n = l .before .before in
-    let w = rw (n .n .given .1) at (n .before .before .number-behind .ensures) in (
-      λ e. absurd (true≢false (sym e)),
-      λ e. group-bad (w .0) (grouping-bad (l .loop .inv) (o .before .loop-test .taken) (rw (c .enum-told2 .given .1) at (o .operand-behind .ensures))),
-    )
+    let w = rw (n .n .given .1) at (n .before .before .number-behind .ensures) in
+    group-bad (w .0) (grouping-bad (l .loop .inv) (o .before .loop-test .taken) (rw (c .enum-told2 .given .1) at (o .operand-behind .ensures)))
 
 mul-names : tie.Need-mul-names Inv-loop μ-loop
 mul-names c = search needs
@@ -88,7 +85,7 @@ returns-3 : tie.Need-returns-3 Inv-loop μ-loop
 returns-3 c =
     let n = c .before .before .before in
     let w = rw (n .n .given .1) at (n .before .before .number-behind .ensures) in
-    (λ e. grouping-done (c .before .loop .inv) (c .loop-test .left) (w .0), λ e. absurd (true≢false e))
+    grouping-done (c .before .loop .inv) (c .loop-test .left) (w .0)
 
 pub read-operands-spec : {M : Type 1} → statement M
 read-operands-spec =

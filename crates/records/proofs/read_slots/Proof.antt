@@ -1,7 +1,5 @@
 -- `records::read_slots` meets its contract: the line's slots are those that `listed` tells of and those behind `i`, which moves on
 -- each turn; a bad field leaves none.
-use mathlib.Core.Path.{sym}
-use mathlib.Core.Bool.{true≢false}
 use Prim.Native.Nat.{_-_}
 use native.Mathlib.Omega.{arith}
 use lib.ListN.{length}
@@ -33,10 +31,8 @@ enum-told c = search needs
 
 returns : tie.Need-returns Inv-loop μ-loop
 returns c =
-    let n = c .before .before in (
-      λ e. absurd (true≢false (sym e)),
-      λ e. slotting-bad (n .before .before .before .loop .inv) (n .before .if1 .taken) (rw (c .enum-told .given .1) at (n .number-behind .ensures)),
-    )
+    let n = c .before .before in
+    slotting-bad (n .before .before .before .loop .inv) (n .before .if1 .taken) (rw (c .enum-told .given .1) at (n .number-behind .ensures))
 
 list-slot-requires : tie.Need-list-slot-requires Inv-loop μ-loop
 list-slot-requires c κs =
@@ -57,7 +53,7 @@ loop-again c =
     slotting-more (n .before .before .before .loop .inv) (w .0) (c .list-slot .ensures)
 
 returns-2 : tie.Need-returns-2 Inv-loop μ-loop
-returns-2 c = (λ e. slotting-done (c .before .before .loop .inv) (c .if1 .left), λ e. absurd (true≢false e))
+returns-2 c = slotting-done (c .before .before .loop .inv) (c .if1 .left)
 
 pub read-slots-spec : {M : Type 1} → statement M
 read-slots-spec =

@@ -1,13 +1,15 @@
--- `records::safepoint_line` meets its contract: a bad field is refusal 3; else `listed` tells the slots' limit and order, and with
--- number 0 the mask's set bits are the slots, all below `F`'s count.
-use mathlib.Core.Path.{refl, sym, _∙_}
+-- `records::safepoint_line` meets its contract: a bad field is refusal 3; else `listed` tells the slots' limit and order, and where
+-- it passes the mask's set bits are the slots, all below `F`'s count.
+use mathlib.Core.Path.{_≡_, refl}
+use mathlib.Core.Option.{Option}
 use native.Mathlib.Omega.{arith}
-use borrow.Author.Tests.{not-true, not-false}
+use Rattle.paper.specs.Sheet.{Sheet, Step, safepoint}
+use Rattle.paper.specs.Refusals.{step-record, so-far-of, first-holding, conditions}
 use Rattle.fields.specs.declared.Number.the-variants.{Value}
-use Rattle.records.specs.Records.{NumberBehind}
-use Rattle.records.specs.Parts.{SlotsRead}
-use Rattle.records.proofs.LawsTold.{no-form, refused-as}
-use Rattle.records.proofs.LawsSteps.{safepoint-no-inst, safepoint-bad, safepoint-told, safepoint-within}
+use Rattle.records.specs.Records.{judged-of, safepoint-line, NumberBehind, Placed, Counted}
+use Rattle.records.specs.Parts.{SlotsListed}
+use Rattle.records.proofs.LawsTold.{clear-of, judged-by, ill-formed, breaks, passes, in-place}
+use Rattle.records.proofs.LawsSteps.{safepoint-no-inst, safepoint-bad, safepoint-says, safepoint-ends, safepoint-tested, safepoint-bits, safepoint-within}
 use borrow.Author.Needs.{needs}
 use Rattle.records.proofs.safepoint_line.Statement.{statement}
 use Rattle.records.proofs.safepoint_line.Tie as tie
@@ -15,23 +17,31 @@ use Rattle.records.proofs.safepoint_line.Tie as tie
 abbrev start-of : tie.After-inst → tie.Start
 start-of c = c .before .before .before .before
 
-abbrev slots-of : tie.Else1 → tie.After-read-slots
-slots-of c = c .before .before .before
+abbrev inst-of : tie.After-slots → tie.After-inst
+inst-of c = c .before .before .before .before
 
-abbrev inst-of : tie.Else1 → tie.After-inst
-inst-of c = slots-of c .before .before
+abbrev slots-of : tie.After-lowest → tie.After-slots
+slots-of c = c .before .before .before
 
 -- what was read, up to each place
 got-inst : (c : tie.After-inst)
     → NumberBehind (start-of c .args .s .now) (start-of c .args .at) (Value (c .inst .given .0 .0) (c .inst .given .0 .1 .0))
 got-inst c = rw (c .inst .given .1) at (c .before .before .number-behind .ensures)
 
-got-slots : (c : tie.Else1) → let i = inst-of c in let s = start-of i .args in let r = slots-of c .read-slots .result in
-    SlotsRead (s .s .now) (i .inst .given .0 .1 .0) (s .counts .slots) (r .next) (r .listed)
-got-slots c = slots-of c .read-slots .ensures .0 (not-false _ (c .if1 .left))
+got-slots : (c : tie.After-slots) → let i = inst-of c in let s = start-of i .args in
+    SlotsListed (s .s .now) (i .inst .given .0 .1 .0) (s .counts .slots) (c .slots .given .0 .1 .0) (c .slots .given .0 .0)
+got-slots c = rw (c .slots .given .1) at (c .before .before .read-slots .ensures)
+
+-- the tests are the paper's
+judged : (l : tie.After-lowest) → let k = slots-of l in let i = inst-of k in let s = start-of i .args in
+    (so : Option Sheet) → ((x : Step) → Placed so (step-record x) (s .place)) → Counted (so-far-of so) (s .counts)
+    → l .lowest .result ≡ judged-of (first-holding (conditions so (step-record (safepoint (i .inst .given .0 .0) (got-slots k .listed-slots)))))
+judged l so p h =
+    let k = slots-of l in
+    judged-by (safepoint-tested (got-inst (inst-of k) .0) (got-slots k) (p _) h refl) (l .lowest .ensures)
 
 number-behind-requires : tie.Need-number-behind-requires
-number-behind-requires c κs = search needs
+number-behind-requires c κs = c .before .pre .0
 
 enum-known-inst : tie.Need-enum-known-inst
 enum-known-inst c = search needs
@@ -39,54 +49,58 @@ enum-known-inst c = search needs
 enum-told : tie.Need-enum-told
 enum-told c = search needs
 
-no-safepoint-requires : tie.Need-no-safepoint-requires
-no-safepoint-requires c κs = search needs
-
 returns : tie.Need-returns
-returns c = (
-  λ S h. no-form (c .no-safepoint .ensures .0) (safepoint-no-inst _ _ (rw (c .before .enum-told .given .1) at (c .before .before .before .number-behind .ensures))),
-  λ z. absurd (omega (arith, c .no-safepoint .ensures .0)),
-)
+unfolding safepoint-line
+returns c = (λ so p h. ill-formed so _ (safepoint-no-inst _ _ (rw (c .enum-told .given .1) at (c .before .before .number-behind .ensures))), tt)
 
 read-slots-requires : tie.Need-read-slots-requires
 read-slots-requires c κs = (got-inst (c .before) .0 .behind, start-of (c .before) .pre .1 .slots)
 
-no-safepoint-requires-2 : tie.Need-no-safepoint-requires-2
-no-safepoint-requires-2 c κs = search needs
+enum-known-slots : tie.Need-enum-known-slots
+enum-known-slots c = search needs
+
+enum-told-2 : tie.Need-enum-told-2
+enum-told-2 c = search needs
 
 returns-2 : tie.Need-returns-2
+unfolding safepoint-line
 returns-2 c =
-    let r = c .before .before .before .before in (
-      λ S h. no-form (c .no-safepoint2 .ensures .0) (safepoint-bad (got-inst (r .before .before) .0) (r .read-slots .ensures .1 (not-true _ (c .before .if1 .taken)))),
-      λ z. absurd (omega (arith, c .no-safepoint2 .ensures .0)),
-    )
+    let r = c .before .before in
+    (λ so p h. ill-formed so _ (safepoint-bad (got-inst (r .before .before) .0) (rw (c .enum-told2 .given .1) at (r .read-slots .ensures))), tt)
 
 lowest-requires : tie.Need-lowest-requires
 lowest-requires c κs = search needs
 
-no-safepoint-requires-3 : tie.Need-no-safepoint-requires-3
-no-safepoint-requires-3 c κs = search needs
+enum-known-judged : tie.Need-enum-known-judged
+enum-known-judged c = search needs
+
+enum-told-3 : tie.Need-enum-told-3
+enum-told-3 c = search needs
+
+cast-t18 : tie.Need-cast-t18
+cast-t18 c =
+    let l = c .before .before in
+    let k = slots-of l in
+    omega (arith, safepoint-within (got-inst (inst-of k) .0) (got-slots k) (clear-of (l .lowest .ensures) (c .enum-told3 .given .1)) .inst-most)
 
 returns-3 : tie.Need-returns-3
+unfolding safepoint-line
 returns-3 c =
-    let l = c .before .before in
-    let e = l .before .before in (
-      λ S h. refused-as (c .no-safepoint3 .ensures .0) (c .no-safepoint3 .ensures .1) (c .before .if2 .taken) (safepoint-told (got-inst (inst-of e) .0) (got-slots e) h refl (l .lowest .ensures)),
-      λ z. absurd (c .before .if2 .taken (sym (c .no-safepoint3 .ensures .0) ∙ z)),
-    )
-
-cast-t12 : tie.Need-cast-t12
-cast-t12 c =
-    let l = c .before in
-    let e = l .before .before in
-    omega (arith, safepoint-within (got-inst (inst-of e) .0) (got-slots e) (l .lowest .ensures) (c .if2 .left) .0)
+    let l = c .before .before .before in
+    let k = slots-of l in
+    (λ so p h. breaks so (safepoint-says (got-inst (inst-of k) .0) (got-slots k)) (judged l so p h) _ (c .before .judged .given .1), tt)
 
 returns-4 : tie.Need-returns-4
+unfolding safepoint-line
 returns-4 c =
-    let l = c .before in
-    let e = l .before .before in (
-      λ S h. safepoint-told (got-inst (inst-of e) .0) (got-slots e) h refl (l .lowest .ensures),
-      λ z. safepoint-within (got-inst (inst-of e) .0) (got-slots e) (l .lowest .ensures) z,
+    let l = c .before .before in
+    let k = slots-of l in
+    let i = got-inst (inst-of k) .0 in
+    let z = c .enum-told3 .given .1 in
+    let clear = clear-of (l .lowest .ensures) z in
+    let ends = safepoint-ends i (got-slots k) in (
+      λ so p h. rw (safepoint-bits i (got-slots k) clear) (passes so (safepoint-says i (got-slots k)) (judged l so p h) z (ends .place)),
+      (in-place ends clear, safepoint-within i (got-slots k) clear),
     )
 
 pub safepoint-line-spec : {M : Type 1} → statement M
@@ -96,13 +110,14 @@ safepoint-line-spec =
     number-behind-requires
     enum-known-inst
     enum-told
-    no-safepoint-requires
     returns
     read-slots-requires
-    no-safepoint-requires-2
+    enum-known-slots
+    enum-told-2
     returns-2
     lowest-requires
-    no-safepoint-requires-3
+    enum-known-judged
+    enum-told-3
+    cast-t18
     returns-3
-    cast-t12
     returns-4)

@@ -84,12 +84,6 @@ read-line-requires c κs =
 enum-known-lined : tie.Need-enum-known-lined Inv-loop μ-loop
 enum-known-lined c = search needs
 
-enum-told : tie.Need-enum-told Inv-loop μ-loop
-enum-told c = search needs
-
-number-of-requires : tie.Need-number-of-requires Inv-loop μ-loop
-number-of-requires c κs = tt
-
 same-length : tie.Need-same-length Inv-loop μ-loop
 same-length c =
     let r = c .before .before .before .before .before in
@@ -97,13 +91,13 @@ same-length c =
 
 returns-2 : tie.Need-returns-2 Inv-loop μ-loop
 returns-2 c =
-    let told = c .before .enum-told .given in
-    let n : c .number-of .result ≡ told .0 .0 = rw (told .1) at (c .number-of .ensures) in
+    let told = c .before .lined .given in
     let r = c .before .before .before .before .before in
     let l = loop-of r in
-    rw n
-    (load-from _ (started (l .before))
-    (line-bad (l .loop .inv) (turn-of r .loop-test .taken) (told .0 .0) (rw (told .1) at (r .read-line .ensures))))
+    load-from _ (started (l .before)) (line-bad (l .loop .inv) (turn-of r .loop-test .taken) (told .0 .0) (rw (told .1) at (r .read-line .ensures)))
+
+enum-known-lined-2 : tie.Need-enum-known-lined-2 Inv-loop μ-loop
+enum-known-lined-2 c = search needs
 
 add-line : tie.Need-add-line Inv-loop μ-loop
 add-line c =
@@ -113,14 +107,14 @@ add-line c =
 
 loop-less : tie.Need-loop-less Inv-loop μ-loop
 loop-less c =
-    let told = c .before .lined .given in
+    let told = c .before .lined2 .given in
     let r = c .before .before .before .before .before in
     let h = turn-of r .loop-test .taken in
     omega (arith, line-further (loop-of r .loop .inv) h (told .0 .0) (rw (told .1) at (r .read-line .ensures)), h)
 
 loop-again : tie.Need-loop-again Inv-loop μ-loop
 loop-again c =
-    let told = c .before .lined .given in
+    let told = c .before .lined2 .given in
     let r = c .before .before .before .before .before in
     line-good (loop-of r .loop .inv) (turn-of r .loop-test .taken) (told .0 .0) (rw (told .1) at (r .read-line .ensures))
 
@@ -163,10 +157,9 @@ load-spec =
     loop-holds
     read-line-requires
     enum-known-lined
-    enum-told
-    number-of-requires
     same-length
     returns-2
+    enum-known-lined-2
     add-line
     loop-less
     loop-again

@@ -1,107 +1,115 @@
--- `sheet::read_block` meets its contract: the line's own number and its place give the paper's number; with 0 there is room for a
--- block, so `F` was read, and each successor is below `F`'s count.
-use mathlib.Core.Path.{_≡_, refl, sym, _∙_}
+-- `sheet::read_block` meets its contract: place and counts in the words are those of the sheet so far, so what `block_line` tells
+-- holds of it; for a good line there is room for a block, so `F` was read, and each successor is below `F`'s count.
+use mathlib.Core.Path.{_≡_, refl, ap, subst}
 use mathlib.Core.Bool.{false}
 use native.Mathlib.Omega.{arith}
 use lib.Dec.{leb}
-use lib.ListN.{getD, take}
 use borrow.Author.Tests.{leb-false}
-use Rattle.paper.specs.Refusals.{block-record, block-of}
+use lib.ListN.{getD}
+use Rattle.paper.specs.Refusals.{block-of}
 use Rattle.layout.specs.Layout.{blocks-word, opened-word}
-use Rattle.fields.specs.Fields.{fields-behind}
-use Rattle.records.specs.Records.{Told, BlockWithin}
-use Rattle.sheet.specs.Loaded.{sheet-of}
-use Rattle.sheet.proofs.LawsJudged.{lowest-zero}
-use Rattle.sheet.proofs.LawsProgress.{size-of, begun-by-room, counted-by}
-use Rattle.sheet.proofs.LawsLines.{told-most, told-inside, block-refused, block-accepted}
+use Rattle.fields.specs.Fields.{line-end, fields-behind}
+use Rattle.records.specs.Records.{block-told, block-line, told, InPlace, BlockWithin}
+use Rattle.records.specs.declared.Counts.{Counts}
+use Rattle.records.specs.declared.Place.{Place}
+use Rattle.sheet.specs.Loaded.{so-far}
+use Rattle.sheet.proofs.LawsProgress.{size-of, begun-by-room, block-placed, so-far-counted}
+use Rattle.sheet.proofs.LawsJudged.{line-refused, line-accepted, block-clear}
+use borrow.Author.Needs.{needs}
 use Rattle.sheet.proofs.read_block.Statement.{statement}
 use Rattle.sheet.proofs.read_block.Tie as tie
 
-abbrev start-of : tie.After-counts → tie.Start
-start-of c = c .before .before .before .before
+abbrev start-of : tie.After-block-line → tie.Start
+start-of c = c .before .before .before .before .before .before .before
 
-abbrev line-of : tie.After-lowest → tie.After-block-line
-line-of c = c .before .before .before
+abbrev line-of : tie.After-told2 → tie.After-block-line
+line-of c = c .before .before
 
-abbrev clear-of : tie.After-add-block-arg → tie.Else1
-clear-of c = c .before .before
+abbrev good-of : tie.After-add-block-arg → tie.After-told2
+good-of c = c .before .before .before
 
-abbrev stored-of : tie.After-struct-known → tie.After-add-block
-stored-of c = c .before .before .before
+abbrev stored-of : tie.After-slice-known4 → tie.After-add-block
+stored-of c = c .before .before
 
-told : (c : tie.After-block-line) → let s = start-of (c .before) .args in let r = c .block-line .result in
-    Told (sheet-of (s .words .now)) (s .sheet .now) (s .at) (block-of (fields-behind (s .sheet .now) (s .at))) (r .number) (r .next)
-    (block-record (take (r .count) (r .succs)))
-told c = c .block-line .ensures .0 (sheet-of (start-of (c .before) .args .words .now)) (counted-by _ _ (c .before .counts .ensures))
+lined : (c : tie.After-block-line) → let s = start-of c .args in
+    block-line (c .block-line .result) ≡ told (so-far (s .words .now)) (line-end (s .sheet .now) (s .at)) (block-of (fields-behind (s .sheet .now) (s .at)))
+lined c =
+    let p = start-of c .pre .1 in
+    c .block-line .ensures .0 (so-far _) (block-placed _ p) (so-far-counted _ p _ (c .before .counts .ensures))
 
--- where the line breaks nothing, each successor is a block
-within : (c : tie.After-block-line) → let r = c .block-line .result in
-    r .number ≡ 0 → BlockWithin (getD (start-of (c .before) .args .words .now) blocks-word 0) (r .count) (r .succs)
-within c z = rw (c .before .counts .ensures) at (c .block-line .ensures .1 z)
+-- a line that passes is in place, and each successor is a block
+abbrev place-of : tie.After-block-line → Place
+place-of c = let words = start-of c .args .words .now in record { misplaced = leb (getD words blocks-word 0) (getD words opened-word 0); surplus = false }
 
--- the line breaks nothing, and stands in its place
-clear : (c : tie.Else1) → let t = line-of (c .before) in let words = start-of (t .before) .args .words .now in
-    (t .block-line .result .number ≡ 0) × (leb (getD words blocks-word 0) (getD words opened-word 0) ≡ false)
-clear c = let z = lowest-zero _ _ _ (sym (c .before .lowest .ensures) ∙ c .if1 .left) in (z .0, z .1)
+clear : (c : tie.After-told2) → let t = line-of c in let v = c .told2 .given .0 in
+    InPlace (start-of t .args .sheet .now) (place-of t) (v .1 .0) × BlockWithin (t .before .counts .result .blocks) (v .0) (t .block-line .result .succs)
+clear c = block-clear (line-of c .block-line .ensures .1) (c .told2 .given .1)
+
+within : (c : tie.After-told2) → BlockWithin (getD (start-of (line-of c) .args .words .now) blocks-word 0) (c .told2 .given .0 .0) (line-of c .block-line .result .succs)
+within c =
+    subst (λ (k : Counts). BlockWithin (k .blocks) (c .told2 .given .0 .0) (line-of c .block-line .result .succs)) (line-of c .before .counts .ensures) (clear c .1)
+
+slice-read-t12 : tie.Need-slice-read-t12
+slice-read-t12 c = omega (arith, size-of _ (c .before .before .before .pre .1))
+
+slice-read-t14 : tie.Need-slice-read-t14
+slice-read-t14 c = omega (arith, size-of _ (c .before .before .before .before .pre .1))
 
 counts-requires : tie.Need-counts-requires
-counts-requires c κs = size-of _ (c .before .before .before .pre .1)
+counts-requires c κs = size-of _ (c .before .before .before .before .before .pre .1)
 
 block-line-requires : tie.Need-block-line-requires
-block-line-requires c κs = start-of c .pre .0
+block-line-requires c κs = c .before .before .before .before .before .before .pre .0
 
-slice-read-lowest : tie.Need-slice-read-lowest
-slice-read-lowest c = omega (arith, size-of _ (start-of (c .before .before) .pre .1))
+enum-known-told : tie.Need-enum-known-told
+enum-known-told c = search needs
 
-slice-read-lowest-2 : tie.Need-slice-read-lowest-2
-slice-read-lowest-2 c = omega (arith, size-of _ (start-of (c .before .before .before) .pre .1))
+enum-known-told-2 : tie.Need-enum-known-told-2
+enum-known-told-2 c = search needs
 
-lowest-requires : tie.Need-lowest-requires
-lowest-requires c κs = told-most (told (c .before .before))
+add-block-requires : tie.Need-add-block-requires
+add-block-requires c κs =
+    let g = good-of c in
+    let room = leb-false _ _ (clear g .0 .placed) in
+    (begun-by-room _ (start-of (line-of g) .pre .1) room, room, within g)
+
+add-t23 : tie.Need-add-t23
+add-t23 c =
+    let g = good-of (stored-of c .before) in
+    omega (arith, clear g .0 .inside, start-of (line-of g) .pre .0 .size)
 
 same-length : tie.Need-same-length
 same-length c = refl
 
 returns : tie.Need-returns
+unfolding block-told
 returns c =
-    let t = line-of (c .before) in
-    block-refused _ (start-of (t .before) .pre .1) _ (told t) _ (c .before .lowest .ensures) (c .if1 .taken)
-
-add-block-requires : tie.Need-add-block-requires
-add-block-requires c κs =
-    let e = clear-of c in
-    let t = line-of (e .before) in
-    let room = leb-false _ _ (clear e .1) in
-    (begun-by-room _ (start-of (t .before) .pre .1) room, room, within t (clear e .0))
-
-add-t18 : tie.Need-add-t18
-add-t18 c =
-    let e = clear-of (stored-of c .before) in
-    let t = line-of (e .before) in
-    omega (arith, told-inside (told t) (start-of (t .before) .pre .0 .size) (clear e .0))
+    let t = c .before .before .before in
+    line-refused (lined t) refl (ap (block-told (t .block-line .result .succs)) (c .before .told .given .1))
 
 same-length-2 : tie.Need-same-length-2
 same-length-2 c = stored-of c .add-block .ensures .same-length
 
 returns-2 : tie.Need-returns-2
+unfolding block-told
 returns-2 c =
-    let e = clear-of (stored-of c .before) in
-    let t = line-of (e .before) in
-    block-accepted _ (start-of (t .before) .pre .1) _ (told t) _ (stored-of c .add-block .ensures)
-    (sym (e .before .lowest .ensures) ∙ e .if1 .left)
+    let g = good-of (stored-of c .before) in
+    let t = line-of g in
+    line-accepted (lined t) (start-of t .pre .1) (ap (block-told (t .block-line .result .succs)) (g .told2 .given .1)) (clear g .0 .inside) (stored-of c .add-block .ensures)
 
 pub read-block-spec : {M : Type 1} → statement M
 read-block-spec =
     tie.close
     (tie.spec
+    slice-read-t12
+    slice-read-t14
     counts-requires
     block-line-requires
-    slice-read-lowest
-    slice-read-lowest-2
-    lowest-requires
+    enum-known-told
+    enum-known-told-2
+    add-block-requires
+    add-t23
     same-length
     returns
-    add-block-requires
-    add-t18
     same-length-2
     returns-2)

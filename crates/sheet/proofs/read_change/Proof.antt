@@ -1,61 +1,63 @@
--- `sheet::read_change` meets its contract: the counts and the typed names in the words are those of the sheet so far, so what
--- `change_line` tells holds of it; place and count of steps are left to `step_line`.
-use mathlib.Core.Path.{_≡_}
+-- `sheet::read_change` meets its contract: place, counts and typed names in the words are those of the sheet so far, so what
+-- `change_line` tells holds of it; a good line's action fits.
+use mathlib.Core.Path.{_≡_, refl, ap}
 use Prim.Native.Nat.{_<_}
 use native.Mathlib.Omega.{arith}
 use lib.ListN.{getD}
 use Rattle.lists.specs.Region.{region, length-region}
-use Rattle.paper.specs.Sheet.{change}
-use Rattle.paper.specs.Refusals.{step-record, change-of}
+use Rattle.paper.specs.Refusals.{change-of}
 use Rattle.layout.specs.Layout.{slots-word, typed-base, typed-words}
-use Rattle.fields.specs.Fields.{fields-behind}
-use Rattle.cells.specs.Packed as cells
-use Rattle.records.specs.Records.{Told}
+use Rattle.fields.specs.Fields.{line-end, fields-behind}
+use Rattle.records.specs.Records.{change-line, told, InPlace, ChangeWithin}
 use Rattle.steps.specs.Actions.{step-of}
-use Rattle.sheet.specs.Loaded.{sheet-of}
-use Rattle.sheet.proofs.LawsJudged.{changes-alike}
-use Rattle.sheet.proofs.LawsProgress.{size-of, counted-by, within-by, typed-by}
+use Rattle.sheet.specs.Loaded.{so-far}
+use Rattle.sheet.proofs.LawsProgress.{Ready, step-ready, size-of, step-placed, within-by, so-far-counted, so-far-typed}
+use Rattle.sheet.proofs.LawsJudged.{line-refused, line-accepted, change-clear}
 use Rattle.sheet.proofs.LawsActions.{change-fits}
-use Rattle.sheet.proofs.LawsLines.{told-most, told-inside}
 use borrow.Author.Needs.{needs}
-use Rattle.sheet.specs.Reading.{LineRead}
 use Rattle.sheet.proofs.read_change.Statement.{statement}
 use Rattle.sheet.proofs.read_change.Tie as tie
 
-abbrev start-of : tie.After-words → tie.Start
-start-of c = c .before .before .before .before .before
+abbrev counts-at : tie.After-change-line → tie.After-counts
+counts-at c = c .before .before .before
 
-abbrev read-at : tie.After-change-line → tie.After-words
-read-at c = c .before .before
+abbrev place-of : tie.After-counts → tie.After-step-place
+place-of c = c .before .before
 
-abbrev line-of : tie.After-step-line-arg → tie.After-change-line
+abbrev start-of : tie.After-step-place → tie.Start
+start-of c = c .before .before .before .before
+
+abbrev line-of : tie.After-line2 → tie.After-change-line
 line-of c = c .before .before
 
-told : (c : tie.After-change-line) → let s = start-of (read-at c) .args in let r = c .change-line .result in
-    Told (sheet-of (s .words .now)) (s .sheet .now) (s .at) (change-of (fields-behind (s .sheet .now) (s .at))) (r .number)
-    (r .next)
-    (step-record (change (r .inst) (r .slot) (cells.name-of-word (r .from)) (cells.name-of-word (r .to))))
+abbrev stored-of : tie.After-slice-known2 → tie.After-add-step
+stored-of c = c .before .before
+
+lined : (c : tie.After-change-line) → let s = start-of (place-of (counts-at c)) .args in
+    change-line (c .change-line .result) ≡ told (so-far (s .words .now)) (line-end (s .sheet .now) (s .at)) (change-of (fields-behind (s .sheet .now) (s .at)))
 unfolding region
-told c =
-    let w = read-at c in
-    c .change-line .ensures .0 (sheet-of (start-of w .args .words .now)) (counted-by _ _ (w .before .counts .ensures)) (typed-by _)
+lined c =
+    let k = place-of (counts-at c) in
+    let p = start-of k .pre .1 in
+    c .change-line .ensures .0 (so-far _) (step-placed _ p _ (k .step-place .ensures)) (so-far-counted _ p _ (counts-at c .counts .ensures)) (so-far-typed _ p)
 
--- where the line breaks nothing, the slot is a slot
-slot-below : (c : tie.After-change-line) → c .change-line .result .number ≡ 0
-    → c .change-line .result .slot < getD (start-of (read-at c) .args .words .now) slots-word 0
-slot-below c z = rw (c .before .before .before .counts .ensures) at (c .change-line .ensures .1 z .slot-below)
+-- a line that passes is in place, and its slot is a slot
+clear : (c : tie.After-line2) → let n = counts-at (line-of c) in let k = place-of n in let v = c .line2 .given .0 in
+    InPlace (start-of k .args .sheet .now) (k .step-place .result) (v .1 .1 .1 .1 .0)
+    × ChangeWithin (n .counts .result .slots) (v .0) (v .1 .0) (v .1 .1 .0) (v .1 .1 .1 .0)
+clear c = change-clear (line-of c .change-line .ensures .1) (c .line2 .given .1)
 
-line : (c : tie.After-step-line) → let s = start-of (read-at (line-of (c .before))) .args in
-    LineRead (change-of (fields-behind (s .sheet .now) (s .at))) (s .sheet .now) (s .at) (s .words .now) (c .step-line .last .0)
-    (c .step-line .result)
-unfolding step-of
-line c =
-    let t = line-of (c .before) in
-    let s = start-of (read-at t) .args in
-    c .step-line .ensures .lined-step _ _ _ (changes-alike (fields-behind (s .sheet .now) (s .at)) _) (told t)
+slot-below : (c : tie.After-line2) → c .line2 .given .0 .1 .0 < getD (start-of (place-of (counts-at (line-of c))) .args .words .now) slots-word 0
+slot-below c = rw (counts-at (line-of c) .counts .ensures) at (clear c .1 .slot-below)
+
+ready : (c : tie.After-line2) → Ready (start-of (place-of (counts-at (line-of c))) .args .words .now)
+ready c = let k = place-of (counts-at (line-of c)) in step-ready (start-of k .pre .1) (k .step-place .ensures) (clear c .0)
+
+step-place-requires : tie.Need-step-place-requires
+step-place-requires c κs = size-of _ (c .before .before .before .pre .1)
 
 counts-requires : tie.Need-counts-requires
-counts-requires c κs = size-of _ (c .before .before .before .pre .1)
+counts-requires c κs = size-of _ (start-of (c .before) .pre .1)
 
 sub-change-line : tie.Need-sub-change-line
 sub-change-line c = search needs
@@ -64,44 +66,71 @@ part-change-line-start : tie.Need-part-change-line-start
 part-change-line-start c = search needs
 
 part-change-line-end : tie.Need-part-change-line-end
-part-change-line-end c = omega (arith, size-of _ (start-of c .pre .1))
+part-change-line-end c = omega (arith, size-of _ (start-of (c .before .before .before) .pre .1))
 
 change-line-requires : tie.Need-change-line-requires
 unfolding region
 change-line-requires c κs =
-    let s = start-of (c .before) in
+    let k = c .before .before in
+    let s = start-of (place-of k) in
     let typed = length-region typed-base typed-words (s .args .words .now) (omega (arith, size-of _ (s .pre .1))) in
-    (s .pre .0, typed, within-by _ _ (c .before .before .counts .ensures) (s .pre .1))
+    (s .pre .0, typed, within-by _ _ (k .counts .ensures) (s .pre .1))
+
+enum-known-line : tie.Need-enum-known-line
+enum-known-line c = search needs
+
+enum-known-line-2 : tie.Need-enum-known-line-2
+enum-known-line-2 c = search needs
 
 cast-slot : tie.Need-cast-slot
 cast-slot c = search needs
 
-step-line-requires : tie.Need-step-line-requires
-step-line-requires c κs =
-    let t = line-of c in
-    let s = start-of (read-at t) in (
-      s .pre .1,
-      told-most (told t),
-      told-inside (told t) (s .pre .0 .size),
-      λ z. change-fits _ (s .pre .1) _ _ _ _ (slot-below t z),
-    )
+add-step-requires : tie.Need-add-step-requires
+add-step-requires c κs =
+    let g = c .before .before in
+    let r = ready g in
+    (r .some-sheet, r .some-block, r .some-room, change-fits _ (start-of (place-of (counts-at (line-of g))) .pre .1) _ _ _ _ (slot-below g))
+
+add-t27 : tie.Need-add-t27
+add-t27 c =
+    let g = stored-of c .before .before .before in
+    omega (arith, clear g .0 .inside, start-of (place-of (counts-at (line-of g))) .pre .0 .size)
 
 same-length : tie.Need-same-length
-same-length c = line (c .before .before) .same-length
+same-length c = refl
 
 returns : tie.Need-returns
-returns c = line (c .before .before)
+unfolding change-line
+returns c =
+    let t = c .before .before .before in
+    line-refused (lined t) refl (ap change-line (c .before .line .given .1))
+
+same-length-2 : tie.Need-same-length-2
+same-length-2 c = stored-of c .add-step .ensures .same-length
+
+returns-2 : tie.Need-returns-2
+unfolding change-line step-of
+returns-2 c =
+    let g = stored-of c .before .before .before in
+    let t = line-of g in
+    line-accepted (lined t) (start-of (place-of (counts-at t)) .pre .1) (ap change-line (g .line2 .given .1)) (clear g .0 .inside) (stored-of c .add-step .ensures)
 
 pub read-change-spec : {M : Type 1} → statement M
 read-change-spec =
     tie.close
     (tie.spec
+    step-place-requires
     counts-requires
     sub-change-line
     part-change-line-start
     part-change-line-end
     change-line-requires
+    enum-known-line
+    enum-known-line-2
     cast-slot
-    step-line-requires
+    add-step-requires
+    add-t27
     same-length
-    returns)
+    returns
+    same-length-2
+    returns-2)

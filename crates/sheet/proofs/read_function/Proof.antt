@@ -1,113 +1,113 @@
--- `sheet::read_function` meets its contract: the line's own number and its place give the paper's number; with 0 the words are
--- blank still, and the values are within their limits, so they fit 16 bits.
-use mathlib.Core.Path.{_≡_, sym, _∙_}
+-- `sheet::read_function` meets its contract: the place that the words tell is the paper's, so what `function_line` tells holds of the
+-- sheet so far; a good line finds the words blank, and its values are within their limits.
+use mathlib.Core.Path.{_≡_, refl, ap}
 use mathlib.Core.Bool.{false, not}
 use native.Mathlib.Omega.{arith}
-use borrow.Author.Tests.{not-false, eqb-true}
 use lib.Dec.{eqb}
 use lib.ListN.{getD}
+use borrow.Author.Tests.{not-false, eqb-true}
+use Rattle.paper.specs.Refusals.{function-of}
 use Rattle.layout.specs.Layout.{begun-word}
-use Rattle.records.specs.Records.{FunctionWithin, Told}
-use Rattle.sheet.specs.Loaded.{sheet-of}
-use Rattle.sheet.proofs.LawsJudged.{lowest-zero}
-use Rattle.sheet.proofs.LawsProgress.{size-of}
-use Rattle.sheet.proofs.LawsLines.{told-most, told-inside, blank-of, function-refused, function-accepted}
-use Rattle.paper.specs.Refusals.{function-record, function-of}
-use Rattle.fields.specs.Fields.{fields-behind}
+use Rattle.fields.specs.Fields.{line-end, fields-behind}
+use Rattle.records.specs.Records.{function-line, told, InPlace, FunctionWithin}
+use Rattle.records.specs.declared.Place.{Place}
+use Rattle.sheet.specs.Loaded.{so-far}
+use Rattle.sheet.proofs.LawsProgress.{size-of, blank-of, function-placed}
+use Rattle.sheet.proofs.LawsJudged.{line-refused, line-accepted, function-clear}
+use borrow.Author.Needs.{needs}
 use Rattle.sheet.proofs.read_function.Statement.{statement}
 use Rattle.sheet.proofs.read_function.Tie as tie
 
 abbrev start-of : tie.After-function-line → tie.Start
-start-of c = c .before .before .before
+start-of c = c .before .before .before .before
 
-abbrev line-of : tie.After-lowest → tie.After-function-line
+abbrev line-of : tie.After-line2 → tie.After-function-line
 line-of c = c .before .before
 
-abbrev clear-of : tie.After-struct-known5 → tie.Else1
-clear-of c = c .before .before .before .before .before .before
+abbrev stored-of : tie.After-slice-known3 → tie.After-store-function
+stored-of c = c .before .before
 
-abbrev stored-of : tie.After-struct-known6 → tie.After-store-function
-stored-of c = c .before .before .before
+lined : (c : tie.After-function-line) → let s = start-of c .args in
+    function-line (c .function-line .result) ≡ told (so-far (s .words .now)) (line-end (s .sheet .now) (s .at)) (function-of (fields-behind (s .sheet .now) (s .at)))
+lined c = c .function-line .ensures .0 (so-far _) (function-placed _ (start-of c .pre .1))
 
-told : (c : tie.After-function-line) → let s = start-of c .args in let r = c .function-line .result in
-    Told (sheet-of (s .words .now)) (s .sheet .now) (s .at) (function-of (fields-behind (s .sheet .now) (s .at))) (r .number)
-    (r .next)
-    (function-record (r .regs) (r .slots) (r .vregs) (r .blocks) (r .entry))
-told c = c .function-line .ensures .0 (sheet-of (start-of c .args .words .now))
+-- a line that passes stands first, and its values are within their limits
+abbrev place-of : tie.After-function-line → Place
+place-of c = record { misplaced = not (eqb (getD (start-of c .args .words .now) begun-word 0) 0); surplus = false }
 
--- the line breaks nothing, and stands in its place
-clear : (c : tie.Else1) → let t = line-of (c .before) in
-    (t .function-line .result .number ≡ 0) × (not (eqb (getD (start-of t .args .words .now) begun-word 0) 0) ≡ false)
-clear c = let z = lowest-zero _ _ _ (sym (c .before .lowest .ensures) ∙ c .if1 .left) in (z .0, z .1)
+clear : (c : tie.After-line2) → let v = c .line2 .given .0 in
+    InPlace (start-of (line-of c) .args .sheet .now) (place-of (line-of c)) (v .1 .1 .1 .1 .1 .0)
+    × FunctionWithin (v .0) (v .1 .0) (v .1 .1 .0) (v .1 .1 .1 .0) (v .1 .1 .1 .1 .0)
+clear c = function-clear (line-of c .function-line .ensures .1) (c .line2 .given .1)
 
-within : (c : tie.Else1) → let r = line-of (c .before) .function-line .result in FunctionWithin (r .regs) (r .slots) (r .vregs)
-    (r .blocks) (r .entry)
-within c = line-of (c .before) .function-line .ensures .1 (clear c .0)
+slice-read-t14 : tie.Need-slice-read-t14
+slice-read-t14 c = omega (arith, size-of _ (c .before .before .before .pre .1))
 
 function-line-requires : tie.Need-function-line-requires
-function-line-requires c κs = c .before .before .pre .0
+function-line-requires c κs = c .before .before .before .pre .0
 
-slice-read-lowest : tie.Need-slice-read-lowest
-slice-read-lowest c = omega (arith, size-of _ (start-of (c .before) .pre .1))
+enum-known-line : tie.Need-enum-known-line
+enum-known-line c = search needs
 
-lowest-requires : tie.Need-lowest-requires
-lowest-requires c κs = told-most (told (c .before))
-
-returns : tie.Need-returns
-returns c =
-    let t = line-of (c .before) in
-    function-refused _ (start-of t .pre .1) _ (told t) _ (c .before .lowest .ensures) (c .if1 .taken)
+enum-known-line-2 : tie.Need-enum-known-line-2
+enum-known-line-2 c = search needs
 
 cast-store-function : tie.Need-cast-store-function
-cast-store-function c = let w = within (c .before .before) in omega arith
+cast-store-function c = let w = clear (c .before .before) .1 in omega arith
 
 cast-store-function-2 : tie.Need-cast-store-function-2
-cast-store-function-2 c = let w = within (c .before .before .before) in omega arith
+cast-store-function-2 c = let w = clear (c .before .before) .1 in omega arith
 
 cast-store-function-3 : tie.Need-cast-store-function-3
-cast-store-function-3 c = let w = within (c .before .before .before .before) in omega arith
+cast-store-function-3 c = let w = clear (c .before .before) .1 in omega arith
 
 cast-store-function-4 : tie.Need-cast-store-function-4
-cast-store-function-4 c = let w = within (c .before .before .before .before .before) in omega arith
+cast-store-function-4 c = let w = clear (c .before .before) .1 in omega arith
 
 cast-store-function-5 : tie.Need-cast-store-function-5
-cast-store-function-5 c = let w = within (clear-of c) in omega arith
+cast-store-function-5 c = let w = clear (c .before .before) .1 in omega arith
 
 store-function-requires : tie.Need-store-function-requires
 store-function-requires c κs =
-    let e = clear-of c in
-    (blank-of _ (start-of (line-of (e .before)) .pre .1) (eqb-true _ _ (not-false _ (clear e .1))), within e)
+    let g = c .before .before in
+    (blank-of _ (start-of (line-of g) .pre .1) (eqb-true _ _ (not-false _ (clear g .0 .placed))), clear g .1)
 
-add-t16 : tie.Need-add-t16
-add-t16 c =
-    let e = clear-of (stored-of c .before) in
-    let t = line-of (e .before) in
-    omega (arith, told-inside (told t) (start-of t .pre .0 .size) (clear e .0))
+add-t25 : tie.Need-add-t25
+add-t25 c =
+    let g = stored-of c .before .before .before in
+    omega (arith, clear g .0 .inside, start-of (line-of g) .pre .0 .size)
+
+returns : tie.Need-returns
+unfolding function-line
+returns c =
+    let t = c .before .before .before in
+    line-refused (lined t) refl (ap function-line (c .before .line .given .1))
 
 same-length : tie.Need-same-length
 same-length c = stored-of c .store-function .ensures .same-length
 
 returns-2 : tie.Need-returns-2
+unfolding function-line
 returns-2 c =
-    let e = clear-of (stored-of c .before) in
-    let t = line-of (e .before) in
-    function-accepted _ (start-of t .pre .1) _ (told t) _ (stored-of c .store-function .ensures)
-    (sym (e .before .lowest .ensures) ∙ e .if1 .left)
+    let g = stored-of c .before .before .before in
+    let t = line-of g in
+    line-accepted (lined t) (start-of t .pre .1) (ap function-line (g .line2 .given .1)) (clear g .0 .inside) (stored-of c .store-function .ensures)
 
 pub read-function-spec : {M : Type 1} → statement M
 read-function-spec =
     tie.close
     (tie.spec
+    slice-read-t14
     function-line-requires
-    slice-read-lowest
-    lowest-requires
-    returns
+    enum-known-line
+    enum-known-line-2
     cast-store-function
     cast-store-function-2
     cast-store-function-3
     cast-store-function-4
     cast-store-function-5
     store-function-requires
-    add-t16
+    add-t25
+    returns
     same-length
     returns-2)

@@ -1,84 +1,97 @@
--- `sheet::read_operation` meets its contract: the operands are stored behind all that was read, so the sheet so far stays and what
--- is told of the line still holds; the action finds them where they stand.
-use mathlib.Core.Path.{_≡_, sym, _∙_}
+-- `sheet::read_operation` meets its contract: place, counts and typed names in the words are those of the sheet so far, so what
+-- `operation_line` tells holds of it; a good line's operands are stored behind all that was read, and the action finds them there.
+use mathlib.Core.Path.{_≡_, refl, sym, ap, _∙_, subst}
 use native.Mathlib.Omega.{arith}
 use lib.ListN.{length, getD, length-map}
 use Rattle.lists.specs.Region.{region, length-region}
+use Rattle.paper.specs.Sheet.{operation}
 use Rattle.paper.specs.Refusals.{step-record, operation-of}
 use Rattle.layout.specs.Layout.{regs-word, steps-word, typed-base, typed-words, defs-from, operand-words}
-use Rattle.fields.specs.Fields.{fields-behind}
-use Rattle.records.specs.Records.{Told, GroupWithin}
-use Rattle.steps.specs.Actions.{step-of}
-use Rattle.steps.specs.declared.Action.the-variants.{Operation}
-use Rattle.sheet.specs.Loaded.{sheet-of}
-use Rattle.sheet.proofs.LawsJudged.{operations-alike}
-use Rattle.sheet.proofs.LawsProgress.{size-of, counted-of, counted-by, within-by, typed-by}
-use Rattle.sheet.proofs.LawsOperands.{operands-place, operands-room, progress-kept, sheet-kept, line-kept, operation-stored, operation-fits}
-use Rattle.sheet.proofs.LawsLines.{told-most, told-as, told-inside}
+use Rattle.fields.specs.Fields.{line-end, fields-behind}
+use Rattle.records.specs.Records.{operation-told, operation-line, told, InPlace, GroupWithin, GroupsWithin}
+use Rattle.records.specs.declared.Counts.{Counts}
+use Rattle.steps.specs.Actions.{operands}
+use Rattle.sheet.specs.Loaded.{sheet-of, so-far}
+use Rattle.sheet.specs.Reading.{Stored}
+use Rattle.sheet.proofs.LawsProgress.{Ready, step-ready, size-of, counted-of, typed-by, step-placed, within-by, so-far-counted}
+use Rattle.sheet.proofs.LawsJudged.{line-refused, line-accepted, operation-clear}
+use Rattle.sheet.proofs.LawsOperands.{operands-room, begun-still, counts-still, stored-from, operation-stored, operation-fits}
 use borrow.Author.Needs.{needs}
-use Rattle.sheet.specs.Reading.{LineRead}
 use Rattle.sheet.proofs.read_operation.Statement.{statement}
 use Rattle.sheet.proofs.read_operation.Tie as tie
 
-abbrev start-of : tie.After-words → tie.Start
-start-of c = c .before .before .before .before .before
+abbrev counts-at : tie.After-operation-line → tie.After-counts
+counts-at c = c .before .before .before
 
-abbrev read-at : tie.After-operation-line → tie.After-words
-read-at c = c .before .before
+abbrev place-of : tie.After-counts → tie.After-step-place
+place-of c = c .before .before
 
-abbrev line-of : tie.After-store-operands → tie.After-operation-line
-line-of c = c .before .before .before .before
+abbrev start-of : tie.After-step-place → tie.Start
+start-of c = c .before .before .before .before
 
-abbrev stored-of : tie.After-step-line-arg → tie.After-store-operands
-stored-of c = c .before .before .before
+abbrev line-of : tie.After-told2 → tie.After-operation-line
+line-of c = c .before .before
 
--- the two groups of a line that breaks nothing
-groups : (c : tie.After-operation-line) → c .operation-line .result .number ≡ 0
-    → let words = start-of (read-at c) .args .words .now in let r = c .operation-line .result in
-    GroupWithin (sheet-of words) (getD words regs-word 0) 0 (r .n) (r .operands)
-    × GroupWithin (sheet-of words) (getD words regs-word 0) defs-from (r .m) (r .operands)
+abbrev given-of : tie.After-told2 → tie.Start
+given-of c = start-of (place-of (counts-at (line-of c)))
+
+abbrev good-of : tie.After-store-operands → tie.After-told2
+good-of c = c .before .before .before .before .before
+
+abbrev operands-of : tie.After-add-step → tie.After-store-operands
+operands-of c = c .before .before .before .before
+
+lined : (c : tie.After-operation-line) → let s = start-of (place-of (counts-at c)) .args in
+    operation-line (c .operation-line .result) ≡ told (so-far (s .words .now)) (line-end (s .sheet .now) (s .at)) (operation-of (fields-behind (s .sheet .now) (s .at)))
+lined c =
+    let k = place-of (counts-at c) in
+    let p = start-of k .pre .1 in
+    c .operation-line .ensures .0 (so-far _) (step-placed _ p _ (k .step-place .ensures)) (so-far-counted _ p _ (counts-at c .counts .ensures))
+
+-- a line that passes is in place, and its groups are within the counts
+clear : (c : tie.After-told2) → let t = line-of c in let n = counts-at t in let k = place-of n in let v = c .told2 .given .0 in
+    InPlace (start-of k .args .sheet .now) (k .step-place .result) (v .1 .1 .1 .0)
+    × GroupsWithin (n .counts .result) (region typed-base typed-words (start-of k .args .words .now)) (t .operation-line .result .operands) (v .1 .0) (v .1 .1 .0)
 unfolding region
-groups c z =
-    let words = start-of (read-at c) .args .words .now in
-    let w = (rw (c .before .before .before .counts .ensures) at (c .operation-line .ensures .1 z)) (sheet-of words)
-    (counted-of words) (typed-by words) in
-    (w .1, w .2)
+clear c = operation-clear (line-of c .operation-line .ensures .1) (c .told2 .given .1)
+
+groups : (c : tie.After-told2) → let words = given-of c .args .words .now in let row = line-of c .operation-line .result .operands in
+    GroupWithin (sheet-of words) (getD words regs-word 0) 0 (c .told2 .given .0 .1 .0) row
+    × GroupWithin (sheet-of words) (getD words regs-word 0) defs-from (c .told2 .given .0 .1 .1 .0) row
+groups c =
+    let words = given-of c .args .words .now in
+    let v = c .told2 .given .0 in
+    let w = subst (λ (k : Counts). GroupsWithin k (region typed-base typed-words words) (line-of c .operation-line .result .operands) (v .1 .0) (v .1 .1 .0))
+    (counts-at (line-of c) .counts .ensures)
+    (clear c .1) in
+    (w .uses-within (sheet-of words) (counted-of words) (typed-by words), w .defs-within (sheet-of words) (counted-of words) (typed-by words))
+
+ready : (c : tie.After-told2) → Ready (given-of c .args .words .now)
+ready c = let k = place-of (counts-at (line-of c)) in step-ready (start-of k .pre .1) (k .step-place .ensures) (clear c .0)
 
 all : (c : tie.After-operation-line) → length (c .operation-line .result .operands) ≡ operand-words
-all c = sym (length-map (c .operation-line .result .operands) (λ v. v)) ∙ c .operation-line .ok .1 .1 .1 .1 .1 .1 .0 .1 .0 .1
+all c = sym (length-map (c .operation-line .result .operands) (λ v. v)) ∙ c .operation-line .ok .1 .1 .1 .0 .1 .0 .1
 
--- what is told of the line, once its operands stand in the words
-told : (c : tie.After-store-operands)
-    → let s = start-of (read-at (line-of c)) .args in let r = line-of c .operation-line .result in
-    let stored = c .store-operands .last .0 in
-    Told (sheet-of stored) (s .sheet .now) (s .at) (operation-of (fields-behind (s .sheet .now) (s .at))) (r .number) (r .next)
-    (step-record (step-of stored (Operation (r .inst) (operands-place (s .words .now)) (r .n) (r .m))))
-told c =
-    let t = line-of c in
-    let s = start-of (read-at t) in
-    let words = s .args .words .now in
-    let r = t .operation-line .result in
-    let stored = c .store-operands .last .0 in
-    rw (sheet-kept (r .operands) words stored (c .store-operands .ensures) (s .pre .1))
-    (told-as _ (t .operation-line .ensures .0 (sheet-of words) (counted-by _ _ (read-at t .before .counts .ensures))) λ z.
-    let g = groups t z in
-    rw (operation-stored (r .operands) words stored (c .store-operands .ensures) (all t) (operands-room _ (s .pre .1)) (r .inst) _ _
-    (g .0 .few) (g .1 .few)))
+-- from the words as they were given to those that the step was added to
+added : (c : tie.After-add-step) → let g = good-of (operands-of c) in let v = g .told2 .given .0 in let row = line-of g .operation-line .result .operands in
+    Stored (given-of g .args .words .now) (c .add-step .last .0) (step-record (operation (v .0) (operands 0 (v .1 .0) row) (operands defs-from (v .1 .1 .0) row)))
+added c =
+    let o = operands-of c in
+    let g = good-of o in
+    let begun = ready g .some-sheet in
+    let q = groups g in
+    let row = line-of g .operation-line .result .operands in
+    let words = given-of g .args .words .now in
+    let stored = o .store-operands .last .0 in
+    let e = o .store-operands .ensures in
+    stored-from row words stored e begun (ap step-record (operation-stored row words stored e (all (line-of g)) (operands-room _ begun) _ _ _ (q .0 .few) (q .1 .few)))
+    (c .add-step .ensures)
 
--- what the step's line gives is what the line gives on the words as they were given
-line : (c : tie.After-step-line) → let s = start-of (read-at (line-of (stored-of (c .before)))) .args in
-    LineRead (operation-of (fields-behind (s .sheet .now) (s .at))) (s .sheet .now) (s .at) (s .words .now) (c .step-line .last .0)
-    (c .step-line .result)
-line c =
-    let o = stored-of (c .before) in
-    let t = line-of o in
-    let s = start-of (read-at t) in
-    line-kept (t .operation-line .result .operands) (s .args .words .now) (o .store-operands .last .0) (o .store-operands .ensures)
-    (s .pre .1)
-    (c .step-line .ensures .lined-step _ _ _ (operations-alike (fields-behind (s .args .sheet .now) (s .args .at)) _) (told o))
+step-place-requires : tie.Need-step-place-requires
+step-place-requires c κs = size-of _ (c .before .before .before .pre .1)
 
 counts-requires : tie.Need-counts-requires
-counts-requires c κs = size-of _ (c .before .before .before .pre .1)
+counts-requires c κs = size-of _ (start-of (c .before) .pre .1)
 
 sub-operation-line : tie.Need-sub-operation-line
 sub-operation-line c = search needs
@@ -87,66 +100,98 @@ part-operation-line-start : tie.Need-part-operation-line-start
 part-operation-line-start c = search needs
 
 part-operation-line-end : tie.Need-part-operation-line-end
-part-operation-line-end c = omega (arith, size-of _ (start-of c .pre .1))
+part-operation-line-end c = omega (arith, size-of _ (start-of (c .before .before .before) .pre .1))
 
 operation-line-requires : tie.Need-operation-line-requires
 unfolding region
 operation-line-requires c κs =
-    let s = start-of (c .before) in
+    let k = c .before .before in
+    let s = start-of (place-of k) in
     let typed = length-region typed-base typed-words (s .args .words .now) (omega (arith, size-of _ (s .pre .1))) in
-    (s .pre .0, typed, within-by _ _ (c .before .before .counts .ensures) (s .pre .1))
+    (s .pre .0, typed, within-by _ _ (k .counts .ensures) (s .pre .1))
 
-slice-read-place : tie.Need-slice-read-place
-slice-read-place c = omega (arith, size-of _ (start-of (read-at (c .before)) .pre .1))
+enum-known-told : tie.Need-enum-known-told
+enum-known-told c = search needs
 
-cast-place : tie.Need-cast-place
-cast-place c = omega (arith, c .slice-known2 .given steps-word)
+enum-known-told-2 : tie.Need-enum-known-told-2
+enum-known-told-2 c = search needs
 
-mul-place : tie.Need-mul-place
-mul-place c = omega (arith, c .slice-known2 .given steps-word)
+slice-read-from : tie.Need-slice-read-from
+slice-read-from c = omega (arith, size-of _ (given-of (c .before .before) .pre .1))
 
-add-place : tie.Need-add-place
-add-place c = omega (arith, c .slice-known2 .given steps-word)
+cast-from : tie.Need-cast-from
+cast-from c = omega (arith, c .slice-known2 .given steps-word)
+
+mul-from : tie.Need-mul-from
+mul-from c = omega (arith, c .slice-known2 .given steps-word)
+
+add-from : tie.Need-add-from
+add-from c = omega (arith, c .slice-known2 .given steps-word)
 
 store-operands-requires : tie.Need-store-operands-requires
-store-operands-requires c κs = operands-room _ (start-of (read-at (c .before .before .before)) .pre .1)
+store-operands-requires c κs = operands-room _ (ready (c .before .before .before .before) .some-sheet)
 
-step-line-requires : tie.Need-step-line-requires
-step-line-requires c κs =
-    let o = stored-of c in
-    let t = line-of o in
-    let s = start-of (read-at t) in
-    let row = t .operation-line .result .operands in
-    let words = s .args .words .now in
+add-step-requires : tie.Need-add-step-requires
+add-step-requires c κs =
+    let o = c .before .before .before in
+    let g = good-of o in
+    let r = ready g in
+    let row = line-of g .operation-line .result .operands in
+    let words = given-of g .args .words .now in
     let stored = o .store-operands .last .0 in
-    let room = operands-room _ (s .pre .1) in (
-      progress-kept row words stored (o .store-operands .ensures) (s .pre .1),
-      told-most (told o),
-      told-inside (told o) (s .pre .0 .size),
-      λ z. operation-fits row words stored (o .store-operands .ensures) (all t) room (s .pre .1) _ _ _ (groups t z .0)
-          (groups t z .1),
+    let e = o .store-operands .ensures in
+    let same = counts-still row words stored e in (
+      begun-still row words stored e (r .some-sheet),
+      rw (same .0) (r .some-block),
+      rw (same .1) (r .some-room),
+      operation-fits row words stored e (all (line-of g)) (operands-room _ (r .some-sheet)) (r .some-sheet) _ _ _ (groups g .0) (groups g .1),
     )
 
+add-t26 : tie.Need-add-t26
+add-t26 c =
+    let g = good-of (operands-of (c .before .before)) in
+    omega (arith, clear g .0 .inside, given-of g .pre .0 .size)
+
 same-length : tie.Need-same-length
-same-length c = line (c .before .before) .same-length
+same-length c = refl
 
 returns : tie.Need-returns
-returns c = line (c .before .before)
+unfolding operation-told
+returns c =
+    let t = c .before .before .before in
+    line-refused (lined t) refl (ap (operation-told (t .operation-line .result .operands)) (c .before .told .given .1))
+
+same-length-2 : tie.Need-same-length-2
+same-length-2 c = added (c .before .before) .same-length
+
+returns-2 : tie.Need-returns-2
+unfolding operation-told
+returns-2 c =
+    let a = c .before .before in
+    let g = good-of (operands-of a) in
+    let t = line-of g in
+    line-accepted (lined t) (given-of g .pre .1) (ap (operation-told (t .operation-line .result .operands)) (g .told2 .given .1)) (clear g .0 .inside) (added a)
 
 pub read-operation-spec : {M : Type 1} → statement M
 read-operation-spec =
     tie.close
     (tie.spec
+    step-place-requires
     counts-requires
     sub-operation-line
     part-operation-line-start
     part-operation-line-end
     operation-line-requires
-    slice-read-place
-    cast-place
-    mul-place
-    add-place
+    enum-known-told
+    enum-known-told-2
+    slice-read-from
+    cast-from
+    mul-from
+    add-from
     store-operands-requires
-    step-line-requires
+    add-step-requires
+    add-t26
     same-length
-    returns)
+    returns
+    same-length-2
+    returns-2)

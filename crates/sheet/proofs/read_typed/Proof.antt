@@ -1,133 +1,134 @@
--- `sheet::read_typed` meets its contract: the line's own number and its place give the paper's number; with 0 `F` was read and no
--- `B`, and the name is below `vregs` and in order.
-use mathlib.Core.Path.{_≡_, refl, sym, _∙_}
+-- `sheet::read_typed` meets its contract: place, counts and least number in the words are those of the sheet so far, so what
+-- `typed_line` tells holds of it; for a good line `F` was read and no `B`, and the name is below `vregs` and in order.
+use mathlib.Core.Path.{_≡_, refl, ap}
 use mathlib.Core.Bool.{false, not, _||_}
-use Prim.Native.Nat.{_<_, _≤_}
+use Prim.Native.Nat.{_<_}
 use native.Mathlib.Omega.{arith}
+use borrow.Author.Tests.{not-false, eqb-true, eqb-false}
 use lib.Dec.{eqb}
 use lib.ListN.{getD}
-use borrow.Author.Tests.{not-false, eqb-true, eqb-false}
-use Rattle.paper.specs.Refusals.{typed-record, typed-of}
-use Rattle.fields.specs.Fields.{fields-behind}
-use Rattle.records.specs.Records.{Told}
-use Rattle.sheet.specs.Loaded.{sheet-of}
 use Rattle.lists.specs.Split.{or-left, or-right}
+use Rattle.paper.specs.Refusals.{typed-of}
 use Rattle.layout.specs.Layout.{vregs-word, opened-word, begun-word, least-word}
-use Rattle.sheet.proofs.LawsJudged.{lowest-zero}
-use Rattle.sheet.proofs.LawsProgress.{size-of, begun-of, counted-by, least-of}
-use Rattle.sheet.proofs.LawsLines.{told-most, told-inside, typed-refused, typed-accepted}
+use Rattle.fields.specs.Fields.{line-end, fields-behind}
+use Rattle.records.specs.Records.{typed-line, told, InPlace, TypedWithin}
+use Rattle.records.specs.declared.Place.{Place}
+use Rattle.sheet.specs.Loaded.{so-far}
+use Rattle.sheet.proofs.LawsProgress.{size-of, begun-of, typed-placed, within-by, so-far-counted, so-far-least}
+use Rattle.sheet.proofs.LawsJudged.{line-refused, line-accepted, typed-clear}
+use borrow.Author.Needs.{needs}
 use Rattle.sheet.proofs.read_typed.Statement.{statement}
 use Rattle.sheet.proofs.read_typed.Tie as tie
 
-abbrev start-of : tie.After-slice-known2 → tie.Start
-start-of c = c .before .before .before .before .before
+abbrev counts-at : tie.After-typed-line → tie.After-counts
+counts-at c = c .before .before
 
-abbrev line-of : tie.After-lowest → tie.After-typed-line
-line-of c = c .before .before .before
+abbrev start-of : tie.After-typed-line → tie.Start
+start-of c = counts-at c .before .before .before .before .before .before
 
-abbrev clear-of : tie.After-struct-known → tie.Else1
-clear-of c = c .before .before
+abbrev line-of : tie.After-line2 → tie.After-typed-line
+line-of c = c .before .before
 
-abbrev stored-of : tie.After-struct-known2 → tie.After-add-typed
-stored-of c = c .before .before .before
+abbrev stored-of : tie.After-slice-known5 → tie.After-add-typed
+stored-of c = c .before .before
 
-told : (c : tie.After-typed-line) → let s = start-of (c .before) .args in let r = c .typed-line .result in
-    Told (sheet-of (s .words .now)) (s .sheet .now) (s .at) (typed-of (fields-behind (s .sheet .now) (s .at))) (r .number) (r .next)
-    (typed-record (r .n))
-told c =
-    let s = start-of (c .before) in
-    c .typed-line .ensures .0 (sheet-of (s .args .words .now)) (counted-by _ _ (c .before .before .counts .ensures))
-    (least-of _ (s .pre .1))
+lined : (c : tie.After-typed-line) → let s = start-of c .args in
+    typed-line (c .typed-line .result) ≡ told (so-far (s .words .now)) (line-end (s .sheet .now) (s .at)) (typed-of (fields-behind (s .sheet .now) (s .at)))
+lined c =
+    let p = start-of c .pre .1 in
+    c .typed-line .ensures .0 (so-far _) (typed-placed _ p) (so-far-counted _ p _ (counts-at c .counts .ensures)) (so-far-least _ p)
 
--- a name that breaks nothing is below `vregs`, and not below the least
-within : (c : tie.After-typed-line) → c .typed-line .result .number ≡ 0 → let words = start-of (c .before) .args .words .now in
-    (c .typed-line .result .n < getD words vregs-word 0) × (getD words least-word 0 ≤ c .typed-line .result .n)
-within c z = rw (c .before .before .counts .ensures) at (c .typed-line .ensures .1 z)
+-- a line that passes is in place, its name below `vregs` and not below the least
+abbrev place-of : tie.After-typed-line → Place
+place-of c =
+    let words = start-of c .args .words .now in
+    record { misplaced = eqb (getD words begun-word 0) 0 || not (eqb (getD words opened-word 0) 0); surplus = false }
 
--- the line breaks nothing, and stands in its place
-clear : (c : tie.Else1) → let t = line-of (c .before) in let words = start-of (t .before) .args .words .now in
-    (t .typed-line .result .number ≡ 0) × ((eqb (getD words begun-word 0) 0 || not (eqb (getD words opened-word 0) 0)) ≡ false)
-clear c = let z = lowest-zero _ _ _ (sym (c .before .lowest .ensures) ∙ c .if1 .left) in (z .0, z .1)
+clear : (c : tie.After-line2) → let s = start-of (line-of c) .args in let v = c .line2 .given .0 in
+    InPlace (s .sheet .now) (place-of (line-of c)) (v .1 .0) × TypedWithin (counts-at (line-of c) .counts .result .vregs) (getD (s .words .now) least-word 0) (v .0)
+clear c = typed-clear (line-of c .typed-line .ensures .1) (c .line2 .given .1)
+
+below : (c : tie.After-line2) → c .line2 .given .0 .0 < getD (start-of (line-of c) .args .words .now) vregs-word 0
+below c = rw (counts-at (line-of c) .counts .ensures) at (clear c .1 .name-below)
+
+slice-read-t10 : tie.Need-slice-read-t10
+slice-read-t10 c = omega (arith, size-of _ (c .before .before .before .pre .1))
+
+slice-read-t13 : tie.Need-slice-read-t13
+slice-read-t13 c = omega (arith, size-of _ (c .before .before .before .before .pre .1))
 
 counts-requires : tie.Need-counts-requires
-counts-requires c κs = size-of _ (c .before .before .before .pre .1)
+counts-requires c κs = size-of _ (c .before .before .before .before .before .pre .1)
 
 slice-read-typed-line : tie.Need-slice-read-typed-line
-slice-read-typed-line c = omega (arith, size-of _ (start-of c .pre .1))
+slice-read-typed-line c = omega (arith, size-of _ (c .before .before .before .before .before .before .before .pre .1))
 
 cast-typed-line : tie.Need-cast-typed-line
-cast-typed-line c = omega (arith, c .slice-known2 .given 7)
+cast-typed-line c = omega (arith, c .slice-known4 .given least-word)
 
 typed-line-requires : tie.Need-typed-line-requires
-typed-line-requires c κs = start-of c .pre .0
+typed-line-requires c κs = c .before .before .before .before .before .before .before .pre .0
 
-slice-read-lowest : tie.Need-slice-read-lowest
-slice-read-lowest c = omega (arith, size-of _ (start-of (c .before .before) .pre .1))
+enum-known-line : tie.Need-enum-known-line
+enum-known-line c = search needs
 
-slice-read-lowest-2 : tie.Need-slice-read-lowest-2
-slice-read-lowest-2 c = omega (arith, size-of _ (start-of (c .before .before .before) .pre .1))
+enum-known-line-2 : tie.Need-enum-known-line-2
+enum-known-line-2 c = search needs
 
-lowest-requires : tie.Need-lowest-requires
-lowest-requires c κs = told-most (told (c .before .before))
+cast-add-typed : tie.Need-cast-add-typed
+cast-add-typed c = let g = c .before .before in omega (arith, below g, within-by _ _ (counts-at (line-of g) .counts .ensures) (start-of (line-of g) .pre .1) .vregs)
+
+add-typed-requires : tie.Need-add-typed-requires
+add-typed-requires c κs =
+    let g = c .before .before in
+    let s = start-of (line-of g) in
+    let z = clear g .0 .placed in (
+      begun-of _ (s .pre .1) (eqb-false _ _ (or-left _ _ z)),
+      eqb-true _ _ (not-false _ (or-right (eqb (getD (s .args .words .now) begun-word 0) 0) _ z)),
+      below g,
+      clear g .1 .name-ascends,
+    )
+
+add-t25 : tie.Need-add-t25
+add-t25 c =
+    let g = stored-of c .before .before .before in
+    omega (arith, clear g .0 .inside, start-of (line-of g) .pre .0 .size)
 
 same-length : tie.Need-same-length
 same-length c = refl
 
 returns : tie.Need-returns
+unfolding typed-line
 returns c =
-    let t = line-of (c .before) in
-    typed-refused _ (start-of (t .before) .pre .1) _ (told t) _ (c .before .lowest .ensures) (c .if1 .taken)
-
-cast-add-typed : tie.Need-cast-add-typed
-cast-add-typed c =
-    let t = line-of (clear-of c .before) in
-    let w = within t (clear (clear-of c) .0) in
-    omega (arith, size-of _ (start-of (t .before) .pre .1))
-
-add-typed-requires : tie.Need-add-typed-requires
-add-typed-requires c κs =
-    let e = clear-of c in
-    let t = line-of (e .before) in
-    let s = start-of (t .before) in
-    let w = within t (clear e .0) in
-    let z = clear e .1 in (
-      begun-of _ (s .pre .1) (eqb-false _ _ (or-left _ _ z)),
-      eqb-true _ _ (not-false _ (or-right (eqb (getD (s .args .words .now) begun-word 0) 0) _ z)),
-      w .0,
-      w .1,
-    )
-
-add-t21 : tie.Need-add-t21
-add-t21 c =
-    let e = clear-of (stored-of c .before) in
-    let t = line-of (e .before) in
-    omega (arith, told-inside (told t) (start-of (t .before) .pre .0 .size) (clear e .0))
+    let t = c .before .before .before in
+    line-refused (lined t) refl (ap typed-line (c .before .line .given .1))
 
 same-length-2 : tie.Need-same-length-2
 same-length-2 c = stored-of c .add-typed .ensures .same-length
 
 returns-2 : tie.Need-returns-2
+unfolding typed-line
 returns-2 c =
-    let e = clear-of (stored-of c .before) in
-    let t = line-of (e .before) in
-    typed-accepted _ (start-of (t .before) .pre .1) _ (told t) _ (stored-of c .add-typed .ensures)
-    (sym (e .before .lowest .ensures) ∙ e .if1 .left)
+    let g = stored-of c .before .before .before in
+    let t = line-of g in
+    line-accepted (lined t) (start-of t .pre .1) (ap typed-line (g .line2 .given .1)) (clear g .0 .inside) (stored-of c .add-typed .ensures)
 
 pub read-typed-spec : {M : Type 1} → statement M
 read-typed-spec =
     tie.close
     (tie.spec
+    slice-read-t10
+    slice-read-t13
     counts-requires
     slice-read-typed-line
     cast-typed-line
     typed-line-requires
-    slice-read-lowest
-    slice-read-lowest-2
-    lowest-requires
-    same-length
-    returns
+    enum-known-line
+    enum-known-line-2
     cast-add-typed
     add-typed-requires
-    add-t21
+    add-t25
+    same-length
+    returns
     same-length-2
     returns-2)
