@@ -6,6 +6,7 @@ use native.Mathlib.Omega.{arith}
 use lib.ListN.{length, getD, take, drop, length-drop}
 use lib.Seq.{take-all}
 use Rattle.paper.specs.Text.{Bytes}
+use Rattle.paper.specs.Limits.{report-size}
 use Rattle.paper.specs.Answer.{Lent, answer, written}
 use Rattle.paper.specs.declared.Rule.{Rule}
 use Rattle.checker.specs.Checked.{Stated, TextOutcome, text-outcome}
@@ -34,10 +35,10 @@ reply-nothing request b ne e = record { whole = sym (behind request b ne ∙ ap 
 
 -- its letter asks for a rule, under which what stands behind it was answered
 pub reply-text : (request : Bytes) (rule : Rule) (b after : Lent) (n : ℕ) → (length request ≡ 0 → ⊥) → rule-asked (getD request 0 0) ≡ For rule
-    → Stated (written (answer rule (take (length request - 1) (drop 1 request)))) b after n → Replied request b after (Text n)
+    → Stated report-size (written (answer rule (take (length request - 1) (drop 1 request)))) b after n → Replied request b after (Text n)
 unfolding reply-under
 reply-text request rule b after n ne e s =
     let all : take (length request - 1) (drop 1 request) ≡ drop 1 request = take-all (length request - 1) (drop 1 request) (simp length-drop (omega arith)) in
-    let under : reply-outcome request b ≡ texted (text-outcome (written (answer rule (drop 1 request))) b) =
+    let under : reply-outcome request b ≡ texted (text-outcome report-size (written (answer rule (drop 1 request))) b) =
     behind request b ne ∙ ap (λ a. reply-under a (drop 1 request) b) e in
     record { whole = rw (under, ← all) (ap texted (s .whole)); fits = s .fits }

@@ -6,6 +6,7 @@ use Prim.Native.Nat.{ℕ, _≤_}
 use lib.Dec.{eqb}
 use lib.ListN.{length}
 use Rattle.paper.specs.Text.{Bytes}
+use Rattle.paper.specs.Limits.{report-size}
 use Rattle.paper.specs.Answer.{Lent, answer, written}
 use Rattle.paper.specs.declared.Rule.the-variants as rule
 use Rattle.checker.specs.Checked.{TextOutcome, text-outcome}
@@ -33,7 +34,7 @@ texted t = record { reply = Text (t .text-length); buffers = t .buffers }
 
 -- under a rule the text is the answer to the sheet; where none is asked for nothing changes
 unfoldable pub reply-under : Asked → Bytes → Lent → ReplyOutcome
-reply-under (For rule) sheet before = texted (text-outcome (written (answer rule sheet)) before)
+reply-under (For rule) sheet before = texted (text-outcome report-size (written (answer rule sheet)) before)
 reply-under Nothing sheet before = record { reply = Malformed; buffers = before }
 
 -- the first byte asks for the rule, and the sheet is what stands behind it

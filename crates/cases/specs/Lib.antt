@@ -1,2 +1,3 @@
 pub mod Computed
 pub mod Cases
+pub mod Spelled

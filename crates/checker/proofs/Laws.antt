@@ -131,14 +131,14 @@ answered-from {report} {r} a e w = record {
 }
 
 -- refusal 1 changes nothing
-pub turned-short : (rule : Rule) (sheet : Bytes) (before : Lent) → too-short before ≡ true → Checked rule sheet before before (Refused (record { number = 1; line = 0 }))
+pub turned-short : (rule : Rule) (sheet : Bytes) (before : Lent) → too-short report-size before ≡ true → Checked rule sheet before before (Refused (record { number = 1; line = 0 }))
 unfolding outcome
 turned-short rule sheet before e = record { whole = rw e; within = (omega arith, omega arith) }
 
 -- any other answer leaves the scratch zero
 pub checked : {rule : Rule} {sheet : Bytes} {report words queue report′ words₁ queue₁ words′ queue′ : List ℕ} {r : Answer}
     → Answered (answer rule sheet) report words queue report′ words₁ queue₁ r → words′ ≡ replicate (length words₁) 0 → queue′ ≡ replicate (length queue₁) 0
-    → too-short (lent report words queue) ≡ false → Checked rule sheet (lent report words queue) (lent report′ words′ queue′) r
+    → too-short report-size (lent report words queue) ≡ false → Checked rule sheet (lent report words queue) (lent report′ words′ queue′) r
 unfolding outcome outcome-of zeros
 checked a w q e = record {
   whole = rw (e, w, q, a .same-words, a .same-queue, a .answer-is, a .report-is);

@@ -49,21 +49,21 @@ unfolding laid
 laid-length text report = omega (arith, length-append text (drop (length text) report))
 
 -- refusal 1 changes nothing
-pub short-outcome : (text : Bytes) (before : Lent) → too-short before ≡ true → Stated text before before 0
+pub short-outcome : (size : ℕ) (text : Bytes) (before : Lent) → too-short size before ≡ true → Stated size text before before 0
 unfolding text-outcome
-short-outcome text before e = record { whole = rw e; fits = omega arith }
+short-outcome size text before e = record { whole = rw e; fits = omega arith }
 
 -- any other answer leaves a text, and the scratch zero
-pub text-left : {text : Bytes} {before after : Lent} {n : ℕ} → too-short before ≡ false → n ≡ length text
-    → after ≡ record { report = laid text (before .report); words = zeros (before .words); queue = zeros (before .queue) } → Stated text before after n
+pub text-left : {size : ℕ} {text : Bytes} {before after : Lent} {n : ℕ} → too-short size before ≡ false → n ≡ length text
+    → after ≡ record { report = laid text (before .report); words = zeros (before .words); queue = zeros (before .queue) } → Stated size text before after n
 unfolding text-outcome
-text-left {text} {before} s k a = record { whole = rw (s, k, a); fits = rw (a, k) (laid-length text (before .report)) }
+text-left {text = text} {before = before} s k a = record { whole = rw (s, k, a); fits = rw (a, k) (laid-length text (before .report)) }
 
 -- and the text is what stands at the report's start
-pub text-left-by : {text : Bytes} {before after : Lent} {n : ℕ} → Stated text before after n → too-short before ≡ false → take n (after .report) ≡ text
+pub text-left-by : {size : ℕ} {text : Bytes} {before after : Lent} {n : ℕ} → Stated size text before after n → too-short size before ≡ false → take n (after .report) ≡ text
 unfolding text-outcome laid
-text-left-by {text} {before} {after} {n} c long =
-    let e : text-outcome text before ≡ record { text-length = length text; buffers = record { report = laid text (before .report); words = zeros (before .words); queue = zeros (before .queue) } } = rw long in
+text-left-by {size} {text} {before} {after} {n} c long =
+    let e : text-outcome size text before ≡ record { text-length = length text; buffers = record { report = laid text (before .report); words = zeros (before .words); queue = zeros (before .queue) } } = rw long in
     let k : n ≡ length text = ap (λ (o : TextOutcome). o .text-length) (c .whole ∙ e) in
     let r : after .report ≡ text ++ drop (length text) (before .report) = ap (λ (o : TextOutcome). o .buffers .report) (c .whole ∙ e) in
     rw (r, k) (take-at text _ _ refl)
@@ -87,14 +87,14 @@ module _ {rule : Rule} {sheet : Bytes} {before after : Lent} {r : Answer} (c : C
   answer-told o e = (ap (λ (x : Outcome). x .answer) (c .whole ∙ e), ap (λ (x : Outcome). x .lent) (c .whole ∙ e))
 
   -- an answer with a report
-  pub texted : (n : ℕ) → (r ≡ Accepted n) ⊎ (r ≡ Faulty n) → Stated (written (answer rule sheet)) before after n
+  pub texted : (n : ℕ) → (r ≡ Accepted n) ⊎ (r ≡ Faulty n) → Stated report-size (written (answer rule sheet)) before after n
   unfolding outcome outcome-of answer-of report-of written
-  texted n e = at (too-short before) refl (answer rule sheet) refl
+  texted n e = at (too-short report-size before) refl (answer rule sheet) refl
     where
       not-refused : {Q : Type 0} {refusal : Refusal} → r ≡ Refused refusal → Q
       not-refused f = ⊎-elim (λ h. let z : _≡_ {A = ℕ} 0 1 = cc in absurd (omega arith)) (λ h. let z : _≡_ {A = ℕ} 0 1 = cc in absurd (omega arith)) e
 
-      at : (b : Bool) → too-short before ≡ b → (said : Said) → answer rule sheet ≡ said → Stated (written (answer rule sheet)) before after n
+      at : (b : Bool) → too-short report-size before ≡ b → (said : Said) → answer rule sheet ≡ said → Stated report-size (written (answer rule sheet)) before after n
       at true s said t = not-refused (answer-told (record { answer = Refused (record { number = 1; line = 0 }); lent = before }) (rw s) .0)
       at false s (accepted text) t =
           let p = answer-told (outcome-of (accepted text) before) (rw (s, t)) in
@@ -105,12 +105,12 @@ module _ {rule : Rule} {sheet : Bytes} {before after : Lent} {r : Answer} (c : C
       at false s (turned-away refusal) t = not-refused (answer-told (outcome-of (turned-away refusal) before) (rw (s, t)) .0)
 
   -- refusal 1 changes nothing, and no other has its number
-  pub texted-short : (refusal : Refusal) → r ≡ Refused refusal → refusal .number ≡ 1 → Stated (written (answer rule sheet)) before after 0
+  pub texted-short : (refusal : Refusal) → r ≡ Refused refusal → refusal .number ≡ 1 → Stated report-size (written (answer rule sheet)) before after 0
   unfolding outcome outcome-of answer-of report-of
-  texted-short refusal e one = at (too-short before) refl (answer rule sheet) refl
+  texted-short refusal e one = at (too-short report-size before) refl (answer rule sheet) refl
     where
-      at : (b : Bool) → too-short before ≡ b → (said : Said) → answer rule sheet ≡ said → Stated (written (answer rule sheet)) before after 0
-      at true s said t = let p = answer-told (record { answer = Refused (record { number = 1; line = 0 }); lent = before }) (rw s) in rw (p .1) (short-outcome (written (answer rule sheet)) before s)
+      at : (b : Bool) → too-short report-size before ≡ b → (said : Said) → answer rule sheet ≡ said → Stated report-size (written (answer rule sheet)) before after 0
+      at true s said t = let p = answer-told (record { answer = Refused (record { number = 1; line = 0 }); lent = before }) (rw s) in rw (p .1) (short-outcome report-size (written (answer rule sheet)) before s)
       at false s (accepted text) t = let p = answer-told (outcome-of (accepted text) before) (rw (s, t)) .0 in let z : _≡_ {A = ℕ} 0 1 = cc in absurd (omega arith)
       at false s (faulty text) t = let p = answer-told (outcome-of (faulty text) before) (rw (s, t)) .0 in let z : _≡_ {A = ℕ} 0 1 = cc in absurd (omega arith)
       at false s (turned-away q) t =
@@ -121,15 +121,15 @@ module _ {rule : Rule} {sheet : Bytes} {before after : Lent} {r : Answer} (c : C
   -- any other refusal leaves the report as it was, and there is room for its line
   module _ (refusal : Refusal) (e : r ≡ Refused refusal) (other : refusal .number ≡ 1 → ⊥) where
     pub record Turned : Type 0 where
-      pub long : too-short before ≡ false
+      pub long : too-short report-size before ≡ false
       pub said : answer rule sheet ≡ turned-away refusal
       pub left : after ≡ record { report = before .report; words = zeros (before .words); queue = zeros (before .queue) }
 
     pub turned : Turned
     unfolding outcome outcome-of answer-of report-of
-    turned = at (too-short before) refl (answer rule sheet) refl
+    turned = at (too-short report-size before) refl (answer rule sheet) refl
       where
-        at : (b : Bool) → too-short before ≡ b → (said : Said) → answer rule sheet ≡ said → Turned
+        at : (b : Bool) → too-short report-size before ≡ b → (said : Said) → answer rule sheet ≡ said → Turned
         at true s said t =
             let p = answer-told (record { answer = Refused (record { number = 1; line = 0 }); lent = before }) (rw s) .0 in
             let z : _≡_ {A = Refusal} refusal (record { number = 1; line = 0 }) = cc in
@@ -143,10 +143,10 @@ module _ {rule : Rule} {sheet : Bytes} {before after : Lent} {r : Answer} (c : C
             record { long = s; said = t ∙ ap turned-away z; left = p .1 }
 
     pub room : report-size ≤ length (after .report)
-    room = rw (turned .left) (long (before .report) (before .words) (before .queue) (turned .long) .0)
+    room = rw (turned .left) (long report-size (before .report) (before .words) (before .queue) (turned .long) .0)
 
     pub texted-refusal : {report : List ℕ} {n : ℕ} → Wrote (after .report) 0 (refusal-text refusal) report n
-        → Stated (written (answer rule sheet)) before (lent report (after .words) (after .queue)) n
+        → Stated report-size (written (answer rule sheet)) before (lent report (after .words) (after .queue)) n
     unfolding refusal-text
     texted-refusal {report} {n} w =
         let t = turned in

@@ -13,6 +13,7 @@ use lib.ListN.{length, take}
 use Rattle.lists.specs.Split.{by-equal}
 use Rattle.paper.specs.Text.{Bytes}
 use Rattle.paper.specs.Sheet.{Sheet}
+use Rattle.paper.specs.Limits.{report-size}
 use Rattle.paper.specs.Runs.{visit-bound, EndsAfter}
 use Rattle.paper.specs.Refusals.{Reading, loaded, refused, read}
 use Rattle.paper.specs.Report.{Line, find-errors, first-list, missing-allocations, faults, report-text}
@@ -20,6 +21,7 @@ use Rattle.paper.specs.Walks.{Acceptance}
 use Rattle.paper.specs.Answer.{Said, accepted, faulty, turned-away, said-of, said-after, answer, written, Lent, too-short, laid, answer-of, report-of, Outcome, outcome-of, outcome}
 use Rattle.paper.specs.declared.Rule.{Rule}
 use Rattle.paper.specs.declared.Rule.the-variants.{Old, House}
+use Rattle.paper.specs.declared.Refusal.{Refusal}
 use Rattle.paper.specs.declared.Answer.{Answer}
 use Rattle.paper.specs.declared.Answer.the-variants.{Accepted, Faulty, Refused}
 use Rattle.walks.specs.Theorems.{ReadSheet, read-sheet, Acceptable, AcceptedBytes, acceptable, accepted-bytes, bytes-acceptance}
@@ -36,7 +38,7 @@ check-one-outcome p q =
     (ap (λ (o : Outcome). o .answer) e, ap (λ (o : Outcome). o .lent) e)
 
 -- `answer_text`, `entry_states` and `text_of`, each with its text
-pub text-one-outcome : {text : Bytes} {before after after′ : Lent} {r r′ : ℕ} → Stated text before after r → Stated text before after′ r′
+pub text-one-outcome : {size : ℕ} {text : Bytes} {before after after′ : Lent} {r r′ : ℕ} → Stated size text before after r → Stated size text before after′ r′
     → (r ≡ r′) × (after ≡ after′)
 text-one-outcome p q =
     let e = p .whole ∙ sym (q .whole) in
@@ -49,12 +51,12 @@ export-one-outcome p q = (p .verdict-is ∙ sym (q .verdict-is), p .lent-is ∙ 
 -- an answer that is accepted is what the paper says of the bytes
 outcome-accepted : (rule : Rule) (sheet : Bytes) (before : Lent) (n : ℕ) → Accepted n ≡ (outcome rule sheet before) .answer → (text : Bytes) × (answer rule sheet ≡ accepted text)
 unfolding outcome outcome-of answer-of
-outcome-accepted rule sheet before n e = at (too-short before) refl (answer rule sheet) refl
+outcome-accepted rule sheet before n e = at (too-short report-size before) refl (answer rule sheet) refl
   where
     told : (o : Outcome) → outcome rule sheet before ≡ o → Accepted n ≡ o .answer
     told o f = e ∙ ap (λ (x : Outcome). x .answer) f
 
-    at : (b : Bool) → too-short before ≡ b → (said : Said) → answer rule sheet ≡ said → (text : Bytes) × (answer rule sheet ≡ accepted text)
+    at : (b : Bool) → too-short report-size before ≡ b → (said : Said) → answer rule sheet ≡ said → (text : Bytes) × (answer rule sheet ≡ accepted text)
     at true s said t = let p = told (record { answer = Refused (record { number = 1; line = 0 }); lent = before }) (rw s) in let z : _≡_ {A = ℕ} 0 1 = cc in absurd (omega arith)
     at false s (accepted text) t = (text, t)
     at false s (faulty text) t = let p = told (outcome-of (faulty text) before) (rw (s, t)) in let z : _≡_ {A = ℕ} 0 1 = cc in absurd (omega arith)
@@ -64,7 +66,7 @@ accepted-outcome : (sheet : Bytes) (before : Lent) (n : ℕ) → Accepted n ≡ 
 accepted-outcome sheet before n e = let s = outcome-accepted House sheet before n e in accepted-bytes sheet (s .0) (s .1)
 
 -- and a sheet that the acceptance sentence holds of has that outcome, where the lent buffers are long enough
-outcome-accepts : (sheet : Bytes) (before : Lent) (S : Sheet) → too-short before ≡ false → read sheet ≡ loaded S → Acceptance S
+outcome-accepts : (sheet : Bytes) (before : Lent) (S : Sheet) → too-short report-size before ≡ false → read sheet ≡ loaded S → Acceptance S
     → (outcome House sheet before) .answer ≡ Accepted (length (report-text House []))
 unfolding outcome outcome-of answer-of
 outcome-accepts sheet before S long h E = rw (long, bytes-acceptance sheet S h .1 E)
@@ -74,11 +76,11 @@ module _ {sheet : Bytes} {before after : Lent} where
   pub check-accepted : {n : ℕ} → Checked House sheet before after (Accepted n) → AcceptedBytes sheet
   check-accepted {n} c = accepted-outcome sheet before n (ap (λ (o : Outcome). o .answer) (c .whole))
 
-  pub check-accepts : {r : Answer} (S : Sheet) → Checked House sheet before after r → too-short before ≡ false → read sheet ≡ loaded S → Acceptance S
+  pub check-accepts : {r : Answer} (S : Sheet) → Checked House sheet before after r → too-short report-size before ≡ false → read sheet ≡ loaded S → Acceptance S
       → r ≡ Accepted (length (report-text House []))
   check-accepts S c long h E = ap (λ (o : Outcome). o .answer) (c .whole) ∙ outcome-accepts sheet before S long h E
 
-  pub check-exactly : {r : Answer} → Checked House sheet before after r → too-short before ≡ false → ((n : ℕ) × (r ≡ Accepted n)) ↔ Acceptable sheet
+  pub check-exactly : {r : Answer} → Checked House sheet before after r → too-short report-size before ≡ false → ((n : ℕ) × (r ≡ Accepted n)) ↔ Acceptable sheet
   check-exactly c long = (
     λ a. acceptable (check-accepted (subst (λ (r : Answer). Checked House sheet before after r) (a .1) c)),
     λ a. (_, check-accepts (a .sheet) c long (a .is-read) (a .sentence)),
@@ -100,12 +102,12 @@ module _ {rule : ℕ} {sheet : Bytes} {before after : Lent} {r : Verdict} (house
       at : (a : Answer) → (outcome House sheet before) .answer ≡ a → AcceptedBytes sheet
       at (Accepted n) t = accepted-outcome sheet before n (sym t)
       at (Faulty n) t = let p : r .answer ≡ 1 = ap (λ (v : Verdict). v .answer) (verdict-is (Faulty n) t) in absurd (omega arith)
-      at (Refused k l) t = let p : r .answer ≡ 2 = ap (λ (v : Verdict). v .answer) (verdict-is (Refused k l) t) in absurd (omega arith)
+      at (Refused refusal) t = let p : r .answer ≡ 2 = ap (λ (v : Verdict). v .answer) (verdict-is (Refused refusal) t) in absurd (omega arith)
 
-  pub export-accepts : (S : Sheet) → too-short before ≡ false → read sheet ≡ loaded S → Acceptance S → r ≡ verdict-of (Accepted (length (report-text House [])))
+  pub export-accepts : (S : Sheet) → too-short report-size before ≡ false → read sheet ≡ loaded S → Acceptance S → r ≡ verdict-of (Accepted (length (report-text House [])))
   export-accepts S long h E = verdict-is _ (outcome-accepts sheet before S long h E)
 
-  pub export-exactly : too-short before ≡ false → (r .answer ≡ 0) ↔ Acceptable sheet
+  pub export-exactly : too-short report-size before ≡ false → (r .answer ≡ 0) ↔ Acceptable sheet
   unfolding verdict-of
   export-exactly long = (
     λ e. acceptable (export-accepted e),
@@ -113,15 +115,15 @@ module _ {rule : ℕ} {sheet : Bytes} {before after : Lent} {r : Verdict} (house
   )
 
 -- the text that `answer_text` leaves under the house rule and `regcheck` writes: exactly `R house 0` and LF, the ten bytes of `house-zero`
-module _ (sheet : Bytes) {before after : Lent} {n : ℕ} (c : Stated (written (answer House sheet)) before after n) where
+module _ (sheet : Bytes) {before after : Lent} {n : ℕ} (c : Stated report-size (written (answer House sheet)) before after n) where
   pub text-accepted : take n (after .report) ≡ house-zero → AcceptedBytes sheet
   text-accepted e = accepted-bytes sheet (report-text House []) (zero-said sheet (zero-left c e))
 
-  pub text-accepts : (S : Sheet) → too-short before ≡ false → read sheet ≡ loaded S → Acceptance S → take n (after .report) ≡ house-zero
+  pub text-accepts : (S : Sheet) → too-short report-size before ≡ false → read sheet ≡ loaded S → Acceptance S → take n (after .report) ≡ house-zero
   unfolding written
   text-accepts S long h E = text-left-by c long ∙ ap written (bytes-acceptance sheet S h .1 E) ∙ zero-text
 
-  pub text-exactly : too-short before ≡ false → (take n (after .report) ≡ house-zero) ↔ Acceptable sheet
+  pub text-exactly : too-short report-size before ≡ false → (take n (after .report) ≡ house-zero) ↔ Acceptable sheet
   text-exactly long = (λ e. acceptable (text-accepted e), λ a. text-accepts (a .sheet) long (a .is-read) (a .sentence))
 
 -- Every answer with a report, accepted or faulty, under either rule: the sheet that was read; its states are the meet over all walks
@@ -143,13 +145,13 @@ unfolding said-of report-of
 reported-lines rule [] report = refl
 reported-lines rule (l ∷ ls) report = refl
 
-outcome-reported : (rule : Rule) (sheet : Bytes) (before : Lent) → ((k l : ℕ) → ¬ ((outcome rule sheet before) .answer ≡ Refused k l)) → ReportOf rule sheet before ((outcome rule sheet before) .lent)
+outcome-reported : (rule : Rule) (sheet : Bytes) (before : Lent) → ((refusal : Refusal) → ¬ ((outcome rule sheet before) .answer ≡ Refused refusal)) → ReportOf rule sheet before ((outcome rule sheet before) .lent)
 unfolding outcome outcome-of answer said-after answer-of
-outcome-reported rule sheet before given = at (too-short before) refl (read sheet) refl
+outcome-reported rule sheet before given = at (too-short report-size before) refl (read sheet) refl
   where
-    at : (b : Bool) → too-short before ≡ b → (o : Reading) → read sheet ≡ o → ReportOf rule sheet before ((outcome rule sheet before) .lent)
-    at true s o h = absurd (given 1 0 (rw s))
-    at false s (refused k l) h = absurd (given k l (rw (s, h)))
+    at : (b : Bool) → too-short report-size before ≡ b → (o : Reading) → read sheet ≡ o → ReportOf rule sheet before ((outcome rule sheet before) .lent)
+    at true s o h = absurd (given (record { number = 1; line = 0 }) (rw s))
+    at false s (refused refusal) h = absurd (given refusal (rw (s, h)))
     at false s (loaded S) h = record {
       sheet = S;
       is-read = h;
@@ -158,15 +160,15 @@ outcome-reported rule sheet before given = at (too-short before) refl (read shee
       each-block = no-missing rule S;
     }
 
-pub check-reported : {rule : Rule} {sheet : Bytes} {before after : Lent} {r : Answer} → Checked rule sheet before after r → ((k l : ℕ) → ¬ (r ≡ Refused k l))
+pub check-reported : {rule : Rule} {sheet : Bytes} {before after : Lent} {r : Answer} → Checked rule sheet before after r → ((refusal : Refusal) → ¬ (r ≡ Refused refusal))
     → ReportOf rule sheet before after
 check-reported {rule} {sheet} {before} c given =
     subst (λ (after : Lent). ReportOf rule sheet before after) (sym (ap (λ (o : Outcome). o .lent) (c .whole)))
-    (outcome-reported rule sheet before (λ k l e. given k l (ap (λ (o : Outcome). o .answer) (c .whole) ∙ e)))
+    (outcome-reported rule sheet before (λ refusal e. given refusal (ap (λ (o : Outcome). o .answer) (c .whole) ∙ e)))
 
 -- "every run ends within document 01's count of block visits": where `check` answers with a report, its sheet's run under its rule is
 -- over after one number of visits, which stays within the count. `check` returns no number: that the run it makes takes so many is
 -- the contract of `runs::analyze`, which returns that very number (`EndsAfter`; `visits-once` of `walks` has that there is no other).
-pub check-visits : {rule : Rule} {sheet : Bytes} {before after : Lent} {r : Answer} → Checked rule sheet before after r → ((k l : ℕ) → ¬ (r ≡ Refused k l))
+pub check-visits : {rule : Rule} {sheet : Bytes} {before after : Lent} {r : Answer} → Checked rule sheet before after r → ((refusal : Refusal) → ¬ (r ≡ Refused refusal))
     → (S : Sheet) × ((read sheet ≡ loaded S) × ((k : ℕ) × (EndsAfter rule S k × (k ≤ visit-bound rule S))))
 check-visits {rule} c given = let p = check-reported c given in (p .sheet, (p .is-read, p .known .visits rule))

@@ -45,16 +45,16 @@ zero-said sheet e = at (read sheet) refl e
 
     at : (o : Reading) → read sheet ≡ o → written (said-after House o) ≡ house-zero → said-after House (read sheet) ≡ accepted (report-text House [])
     at (loaded S) h f = ap (said-after House) h ∙ lines (faults House S) f
-    at (refused number line) h f = let z : _≡_ {A = ℕ} 88 82 = cc in absurd (omega arith)
+    at (refused refusal) h f = let z : _≡_ {A = ℕ} 88 82 = cc in absurd (omega arith)
 
 -- a call leaves it only where the buffers were long enough
-pub zero-left : {text : Bytes} {before after : Lent} {n : ℕ} → Stated text before after n → take n (after .report) ≡ house-zero → text ≡ house-zero
+pub zero-left : {size : ℕ} {text : Bytes} {before after : Lent} {n : ℕ} → Stated size text before after n → take n (after .report) ≡ house-zero → text ≡ house-zero
 unfolding text-outcome house-zero
-zero-left {text} {before} {after} {n} c e = at (too-short before) refl
+zero-left {size} {text} {before} {after} {n} c e = at (too-short size before) refl
   where
-    at : (b : Bool) → too-short before ≡ b → text ≡ house-zero
+    at : (b : Bool) → too-short size before ≡ b → text ≡ house-zero
     at true s =
-        let o : text-outcome text before ≡ record { text-length = 0; buffers = before } = rw s in
+        let o : text-outcome size text before ≡ record { text-length = 0; buffers = before } = rw s in
         let k : n ≡ 0 = ap (λ (o : TextOutcome). o .text-length) (c .whole ∙ o) in
         let z : take 0 (after .report) ≡ house-zero = rw k at e in
         absurd (omega (arith, ap length z))

@@ -54,16 +54,16 @@ pub record TextOutcome : Type 0 where
   pub text-length : ℕ
   pub buffers : Lent
 
--- refusal 1 changes nothing, and the length is 0; else the text stands at the start of the first buffer, later bytes keep their
--- values, and the scratch is all zero
-unfoldable pub text-outcome : Bytes → Lent → TextOutcome
-text-outcome text before =
-    cond (too-short before) (record { text-length = 0; buffers = before })
+-- `size` is what refusal 1 asks of the first buffer. It changes nothing, and the length is 0; else the text stands at that buffer's
+-- start, later bytes keep their values, and the scratch is all zero
+unfoldable pub text-outcome : (size : ℕ) → Bytes → Lent → TextOutcome
+text-outcome size text before =
+    cond (too-short size before) (record { text-length = 0; buffers = before })
     (record { text-length = length text; buffers = record { report = laid text (before .report); words = zeros (before .words); queue = zeros (before .queue) } })
 
 -- the whole of a call that leaves a text
-pub record Stated (text : Bytes) (before after : Lent) (r : ℕ) : Type 0 where
-  pub whole : _≡_ {A = TextOutcome} (record { text-length = r; buffers = after }) (text-outcome text before)
+pub record Stated (size : ℕ) (text : Bytes) (before after : Lent) (r : ℕ) : Type 0 where
+  pub whole : _≡_ {A = TextOutcome} (record { text-length = r; buffers = after }) (text-outcome size text before)
   pub fits : r ≤ length (after .report)
 
 -- over the C interface: 0 accepted, 1 faulty, 2 refused; the report's length; the refusal's number and line

@@ -58,11 +58,11 @@ fn answer(
     }
 }
 
-// Refusal 1: a lent buffer is shorter than its published size.
-pub fn too_short(report: &[u8], words: &[u16], queue: &[u8]) -> bool
-    ensures { λ r. ⌜ r ≡ paper-answer.too-short (lent (now (report .entry)) (now (words .entry)) (now (queue .entry))) ⌝ }
+// Refusal 1: the report is shorter than `size`, or a scratch buffer than its published size.
+pub fn too_short(size: usize, report: &[u8], words: &[u16], queue: &[u8]) -> bool
+    ensures { λ r. ⌜ r ≡ paper-answer.too-short size (lent (now (report .entry)) (now (words .entry)) (now (queue .entry))) ⌝ }
 {
-    if report.len() < REPORT_SIZE {
+    if report.len() < size {
         return true;
     }
     if words.len() < WORDS_SIZE {
@@ -82,7 +82,7 @@ pub fn check(
 ) -> Answer
     ensures { λ r. ⌜ Checked rule (now (sheet .entry)) (lent (now (report .entry)) (now (words .entry)) (now (queue .entry))) (lent (now (report .exit)) (now (words .exit)) (now (queue .exit))) r ⌝ }
 {
-    if too_short(report, words, queue) {
+    if too_short(REPORT_SIZE, report, words, queue) {
         return Answer::Refused(Refusal {
             number: TOO_SHORT,
             line: 0,
@@ -114,7 +114,7 @@ pub fn answer_text(
     words: &mut [u16],
     queue: &mut [u8],
 ) -> usize
-    ensures { λ r. ⌜ Stated (paper-answer.written (paper-answer.answer rule (now (sheet .entry)))) (lent (now (report .entry)) (now (words .entry)) (now (queue .entry))) (lent (now (report .exit)) (now (words .exit)) (now (queue .exit))) r ⌝ }
+    ensures { λ r. ⌜ Stated report-size (paper-answer.written (paper-answer.answer rule (now (sheet .entry)))) (lent (now (report .entry)) (now (words .entry)) (now (queue .entry))) (lent (now (report .exit)) (now (words .exit)) (now (queue .exit))) r ⌝ }
 {
     let said = check(rule, sheet, report, words, queue);
     match said {

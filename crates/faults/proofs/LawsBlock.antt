@@ -1,4 +1,4 @@
--- A block that is being checked: the state before a place, and what was noted up to there.
+-- A block that is being checked: the state before a place, and what a pass leaves of the faults up to there.
 use mathlib.Core.Path.{_≡_, _∙_}
 use mathlib.Core.List.{List, [], _∷_}
 use mathlib.Core.Option.{Option}
@@ -6,11 +6,11 @@ use Prim.Native.Nat.{ℕ, _+_, _*_, _≤_, _<_}
 use native.Mathlib.Numerals.{add-one}
 use native.Mathlib.Omega.{arith}
 use lib.ListN.{length, getD}
-use Rattle.paper.specs.Sheet.{reference-typed}
-use Rattle.paper.specs.Steps.{Fault, check, effect, effects}
+use Rattle.paper.specs.Sheet.{Step, reference-typed}
+use Rattle.paper.specs.Steps.{State, Fault, check, effect, effects}
 use Rattle.paper.specs.Runs.{checked-from}
 use Rattle.paper.specs.Limits.{max-regs, max-slots, max-blocks, max-steps}
-use Rattle.paper.specs.Report.{inst-of, faults-from, block-faults, by-block, find-errors, line-of}
+use Rattle.paper.specs.Report.{Line, inst-of, faults-from, block-faults, by-block, find-errors}
 use Rattle.paper.specs.declared.Rule.{Rule}
 use Rattle.layout.specs.Layout.{regs-word, slots-word, blocks-word, opened-word, steps-word, state-base, state-words, all-words}
 use Rattle.cells.specs.States.{state-of, stored-state}
@@ -20,20 +20,34 @@ use Rattle.steps.specs.Same.{length-steps, steps-more}
 use Rattle.steps.specs.declared.Action.{Action}
 use Rattle.sheet.specs.Loaded.{first-step, step-total, sheet-of, Loaded}
 use Rattle.sheet.specs.Blocks.{steps-in-words}
+use Rattle.faults.specs.Errors.{line-at}
 use Rattle.faults.specs.Blocks.{by-block-more}
-use Rattle.faults.specs.Passes.{Noted}
+use Rattle.faults.specs.Passes.{AfterPass}
 use Rattle.faults.specs.Reported.{Checkable}
 use Rattle.faults.specs.declared.Pass.{Pass}
-use Rattle.faults.proofs.LawsPasses.{noted-none, noted-then}
+use Rattle.faults.proofs.LawsPasses.{pass-none, pass-then}
 use Rattle.faults.proofs.LawsFaults.{effects-more, faults-more, count-from, count-more, count-below}
 
 abbrev pub counts-of : List ℕ → List ℕ
 counts-of words = getD words regs-word 0 ∷ getD words slots-word 0 ∷ []
 
--- the first `place` steps of the block are checked: t is the state behind them
-pub record SoFar (pass : Pass) (rule : Rule) (words : List ℕ) (block place : ℕ) (t : List (List ℕ)) (report₀ : List ℕ) (at : ℕ) (report : List ℕ) (next : ℕ) : Type 0 where
-  pub state : state-of (counts-of words) t ≡ effects rule (reference-typed (sheet-of words)) (steps-at words (first-step words block) place) (checked-from rule (sheet-of words) block)
-  pub noted : Noted pass (faults-from rule (sheet-of words) block 0 (steps-at words (first-step words block) place) (checked-from rule (sheet-of words) block)) report₀ at report next
+-- the first `place` steps of the block, the state behind them, and their faults
+abbrev steps-to : List ℕ → ℕ → ℕ → List Step
+steps-to words block place = steps-at words (first-step words block) place
+
+abbrev state-behind : Rule → List ℕ → ℕ → ℕ → State
+state-behind rule words block place =
+    effects rule (reference-typed (sheet-of words)) (steps-to words block place) (checked-from rule (sheet-of words) block)
+
+abbrev faults-to : Rule → List ℕ → ℕ → ℕ → List Line
+faults-to rule words block place =
+    faults-from rule (sheet-of words) block 0 (steps-to words block place) (checked-from rule (sheet-of words) block)
+
+-- they are checked: t is that state, and the pass has been over those faults
+pub record SoFar (pass : Pass) (rule : Rule) (words : List ℕ) (block place : ℕ) (t : List (List ℕ))
+    (report₀ : List ℕ) (at : ℕ) (report : List ℕ) (next : ℕ) : Type 0 where
+  pub state : state-of (counts-of words) t ≡ state-behind rule words block place
+  pub passed : AfterPass pass (faults-to rule words block place) report₀ at report next
 
 -- the bounds of a block of a loaded sheet
 pub record BlockWithin (words : List ℕ) (block : ℕ) : Type 0 where
@@ -65,24 +79,29 @@ room-at {words} l k h = room-within _ _ _ words (action-at words k) (l .bounds .
 
 module _ {rule : Rule} {words : List ℕ} {block : ℕ} (C : Checkable rule words) (h : block < getD words blocks-word 0) where
   -- nothing is checked yet
-  pub so-far-none : (pass : Pass) (t : List (List ℕ)) (report : List ℕ) (at : ℕ) → state-of (counts-of words) t ≡ stored-state (counts-of words) (state-base + block * state-words) words
+  pub so-far-none : (pass : Pass) (t : List (List ℕ)) (report : List ℕ) (at : ℕ)
+      → state-of (counts-of words) t ≡ stored-state (counts-of words) (state-base + block * state-words) words
       → SoFar pass rule words block 0 t report at report at
   unfolding effects faults-from steps-at
-  so-far-none pass t report at e = record { state = e ∙ C .states block h; noted = noted-none pass report at }
+  so-far-none pass t report at e = record { state = e ∙ C .states block h; passed = pass-none pass report at }
 
   -- all is checked
-  pub so-far-all : {pass : Pass} {t : List (List ℕ)} {report₀ report : List ℕ} {at next : ℕ} → SoFar pass rule words block (step-total words block) t report₀ at report next
-      → Noted pass (block-faults rule (sheet-of words) block) report₀ at report next
+  pub so-far-all : {pass : Pass} {t : List (List ℕ)} {report₀ report : List ℕ} {at next : ℕ}
+      → SoFar pass rule words block (step-total words block) t report₀ at report next
+      → AfterPass pass (block-faults rule (sheet-of words) block) report₀ at report next
   unfolding block-faults
-  so-far-all s = rw (steps-in-words words block (block-within (C .loaded) h .opened)) (s .noted)
+  so-far-all s = rw (steps-in-words words block (block-within (C .loaded) h .opened)) (s .passed)
 
 -- one step more
-pub so-far-more : {pass : Pass} {rule : Rule} {words : List ℕ} {block place : ℕ} {t u : List (List ℕ)} {report₀ report report′ : List ℕ} {at next next′ : ℕ}
+pub so-far-more : {pass : Pass} {rule : Rule} {words : List ℕ} {block place : ℕ} {t u : List (List ℕ)}
+    {report₀ report report′ : List ℕ} {at next next′ : ℕ}
     → (a : Action) (o : Option Fault) (inst : ℕ) → a ≡ action-at words (first-step words block + place)
     → o ≡ check (step-of words a) (state-of (counts-of words) t) → inst ≡ inst-of (step-of words a)
     → state-of (counts-of words) u ≡ effect rule (reference-typed (sheet-of words)) (step-of words a) (state-of (counts-of words) t)
-    → SoFar pass rule words block place t report₀ at report next → Noted pass (line-of block place inst o) report next report′ next′
+    → SoFar pass rule words block place t report₀ at report next
+    → AfterPass pass (line-at (record { block = block; place = place; inst = inst }) o) report next report′ next′
     → SoFar pass rule words block (place + 1) u report₀ at report′ next′
+unfolding line-at
 so-far-more {pass} {rule} {words} {block} {place} a o inst ea eo ei eu s n =
     let first = first-step words block in
     let S = sheet-of words in
@@ -91,7 +110,9 @@ so-far-more {pass} {rule} {words} {block} {place} a o inst ea eo ei eu s n =
     let z : 0 + length xs ≡ place = omega (arith, length-steps words first place) in
     record {
       state = rw (steps-more words first place, effects-more rule (reference-typed S) x xs, ← s .state, ← ea) eu;
-      noted = rw (steps-more words first place, faults-more rule S block x 0 xs, z, ← s .state, ← ea, ← ei, ← eo) (noted-then (s .noted) n);
+      passed =
+          rw (steps-more words first place, faults-more rule S block x 0 xs, z, ← s .state, ← ea, ← ei, ← eo)
+          (pass-then (s .passed) n);
     }
 
 -- block after block
@@ -100,24 +121,26 @@ pub count-next : (words : List ℕ) (block : ℕ) → count-from words 0 (block 
 count-next words block = let z : 0 + block ≡ block = omega arith in rw add-one (rw z at (count-more words 0 block))
 
 -- no more steps than a sheet has
-pub count-within : {rule : Rule} {words : List ℕ} (block : ℕ) → Checkable rule words → block ≤ getD words blocks-word 0 → count-from words 0 block ≤ max-steps
+pub count-within : {rule : Rule} {words : List ℕ} (block : ℕ) → Checkable rule words → block ≤ getD words blocks-word 0
+    → count-from words 0 block ≤ max-steps
 unfolding sheet-of
 count-within {rule} {words} block C h =
     let o : block ≤ getD words opened-word 0 = omega (arith, C .loaded .whole) in
     omega (arith, count-below words 0 block (getD words opened-word 0) o, C .few)
 
-pub blocks-none : (pass : Pass) (rule : Rule) (words report : List ℕ) (at : ℕ) → Noted pass (by-block (block-faults rule (sheet-of words)) 0 0) report at report at
+pub blocks-none : (pass : Pass) (rule : Rule) (words report : List ℕ) (at : ℕ)
+    → AfterPass pass (by-block (block-faults rule (sheet-of words)) 0 0) report at report at
 unfolding by-block
-blocks-none pass rule words report at = noted-none pass report at
+blocks-none pass rule words report at = pass-none pass report at
 
 pub blocks-more : {pass : Pass} {report₀ report report′ : List ℕ} {at next next′ : ℕ} (rule : Rule) (words : List ℕ) (block : ℕ)
-    → Noted pass (by-block (block-faults rule (sheet-of words)) 0 block) report₀ at report next
-    → Noted pass (block-faults rule (sheet-of words) block) report next report′ next′
-    → Noted pass (by-block (block-faults rule (sheet-of words)) 0 (block + 1)) report₀ at report′ next′
-blocks-more rule words block p q = rw (by-block-more (block-faults rule (sheet-of words)) block) (noted-then p q)
+    → AfterPass pass (by-block (block-faults rule (sheet-of words)) 0 block) report₀ at report next
+    → AfterPass pass (block-faults rule (sheet-of words) block) report next report′ next′
+    → AfterPass pass (by-block (block-faults rule (sheet-of words)) 0 (block + 1)) report₀ at report′ next′
+blocks-more rule words block p q = rw (by-block-more (block-faults rule (sheet-of words)) block) (pass-then p q)
 
 pub blocks-all : {pass : Pass} {report₀ report : List ℕ} {at next : ℕ} (rule : Rule) (words : List ℕ)
-    → Noted pass (by-block (block-faults rule (sheet-of words)) 0 (getD words blocks-word 0)) report₀ at report next
-    → Noted pass (find-errors rule (sheet-of words)) report₀ at report next
+    → AfterPass pass (by-block (block-faults rule (sheet-of words)) 0 (getD words blocks-word 0)) report₀ at report next
+    → AfterPass pass (find-errors rule (sheet-of words)) report₀ at report next
 unfolding find-errors sheet-of
 blocks-all rule words p = p

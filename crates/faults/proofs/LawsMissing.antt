@@ -5,7 +5,7 @@ use mathlib.Core.List.{List, [], _∷_, map}
 use Prim.Native.Nat.{ℕ, suc, _+_, _-_, _≤_, _<_}
 use native.Mathlib.Numerals.{add-one}
 use native.Mathlib.Omega.{arith}
-use Rattle.paper.specs.Sheet.{Sheet, steps-of}
+use Rattle.paper.specs.Sheet.{Step, Sheet, steps-of}
 use Rattle.paper.specs.Report.{Line, inst-of, first-list, unallocated, missing-names, missing-from, missing-blocks, faults, names-lines}
 use Rattle.paper.specs.declared.Rule.{Rule}
 use Rattle.layout.specs.Layout.{defs-from}
@@ -13,6 +13,8 @@ use Rattle.steps.specs.Actions.{operands, step-of, action-at, steps-at}
 use Rattle.steps.specs.Faults.{some-in}
 use Rattle.steps.specs.declared.Action.the-variants.{Operation}
 use Rattle.sheet.specs.Loaded.{sheet-of}
+use Rattle.report.specs.declared.Position.{Position}
+use Rattle.faults.specs.Errors.{names-at}
 use Rattle.faults.specs.Missing.{step-lines, missing-lines, is-found, MissingIs, MissingOf}
 use Rattle.faults.specs.declared.Missing.{Missing}
 use Rattle.faults.specs.declared.Missing.the-variants.{Nothing, Found}
@@ -44,28 +46,33 @@ steps-cons words first i n h =
     let f : first + i + 1 ≡ first + (i + 1) = omega arith in
     rw (e, f)
 
+-- what is missing in the n steps from `first` on, from the i-th on
+abbrev pub left : List ℕ → (block first i n : ℕ) → List Line
+left words block first i n = missing-from block i (steps-at words (first + i) (n - i))
+
 module _ (words : List ℕ) (block first i n : ℕ) (h : i < n) where
-  turn : missing-from block i (steps-at words (first + i) (n - i))
-      ≡ first-list (step-lines block i (step-of words (action-at words (first + i)))) (missing-from block (i + 1) (steps-at words (first + (i + 1)) (n - (i + 1))))
+  abbrev here : Step
+  here = step-of words (action-at words (first + i))
+
+  turn : left words block first i n ≡ first-list (step-lines block i here) (left words block first (i + 1) n)
   unfolding missing-from step-lines names-lines
   turn = rw (steps-cons words first i n h, add-one)
 
-  pub missing-here : some-in (missing-names (step-of words (action-at words (first + i)))) ≡ true
-      → missing-from block i (steps-at words (first + i) (n - i)) ≡ step-lines block i (step-of words (action-at words (first + i)))
+  pub missing-here : some-in (missing-names here) ≡ true → left words block first i n ≡ step-lines block i here
   unfolding step-lines names-lines
-  missing-here e = turn ∙ first-of-some _ _ (some-mapped _ (missing-names (step-of words (action-at words (first + i)))) ∙ e)
+  missing-here e = turn ∙ first-of-some _ _ (some-mapped _ (missing-names here) ∙ e)
 
-  pub missing-later : some-in (missing-names (step-of words (action-at words (first + i)))) ≡ false
-      → missing-from block i (steps-at words (first + i) (n - i)) ≡ missing-from block (i + 1) (steps-at words (first + (i + 1)) (n - (i + 1)))
+  pub missing-later : some-in (missing-names here) ≡ false → left words block first i n ≡ left words block first (i + 1) n
   unfolding step-lines names-lines first-list
   missing-later e =
-      turn ∙ ap (λ xs. first-list (names-lines block i (inst-of (step-of words (action-at words (first + i)))) xs) (missing-from block (i + 1) (steps-at words (first + (i + 1)) (n - (i + 1))))) (none-in (missing-names (step-of words (action-at words (first + i)))) e)
+      turn
+      ∙ ap (λ xs. first-list (names-lines block i (inst-of here) xs) (left words block first (i + 1) n)) (none-in (missing-names here) e)
 
-pub missing-ended : (words : List ℕ) (block first i n : ℕ) → n ≤ i → missing-from block i (steps-at words (first + i) (n - i)) ≡ []
+pub missing-ended : (words : List ℕ) (block first i n : ℕ) → n ≤ i → left words block first i n ≡ []
 unfolding missing-from steps-at
 missing-ended words block first i n h = let e : n - i ≡ 0 = omega arith in rw e
 
-pub missing-start : (words : List ℕ) (block first n : ℕ) → missing-from block 0 (steps-at words first n) ≡ missing-from block 0 (steps-at words (first + 0) (n - 0))
+pub missing-start : (words : List ℕ) (block first n : ℕ) → missing-from block 0 (steps-at words first n) ≡ left words block first 0 n
 missing-start words block first n = let e : first + 0 ≡ first = omega arith in let f : n - 0 ≡ n = omega arith in rw (e, f)
 
 module _ (S : Sheet) (b n : ℕ) (h : b < n) where
@@ -112,16 +119,20 @@ module _ (words : List ℕ) (inst at n m : ℕ) where
   unfolding step-of missing-names first-list
   uses-none e = rw (none-in (unallocated (operands at n words)) e)
 
+  abbrev position : (block place : ℕ) → Position
+  position block place = record { block = block; place = place; inst = inst }
+
   pub some-defs : some-in (unallocated (operands at n words)) ≡ false → some-in (missing-names (step-of words (Operation inst at n m))) ≡ true
       → some-in (unallocated (operands (at + defs-from) m words)) ≡ true
   some-defs e s = rw (← uses-none e) s
 
   pub lines-of-uses : (block place : ℕ) → some-in (unallocated (operands at n words)) ≡ true
-      → step-lines block place (step-of words (Operation inst at n m)) ≡ names-lines block place inst (unallocated (operands at n words))
-  unfolding step-lines step-of missing-names inst-of
+      → step-lines block place (step-of words (Operation inst at n m)) ≡ names-at (position block place) (unallocated (operands at n words))
+  unfolding names-at step-lines step-of missing-names inst-of
   lines-of-uses block place e = rw (first-of-some (unallocated (operands at n words)) (unallocated (operands (at + defs-from) m words)) e)
 
   pub lines-of-defs : (block place : ℕ) → some-in (unallocated (operands at n words)) ≡ false
-      → step-lines block place (step-of words (Operation inst at n m)) ≡ names-lines block place inst (unallocated (operands (at + defs-from) m words))
-  unfolding step-lines step-of inst-of
+      → step-lines block place (step-of words (Operation inst at n m))
+      ≡ names-at (position block place) (unallocated (operands (at + defs-from) m words))
+  unfolding names-at step-lines step-of inst-of
   lines-of-defs block place e = ap (names-lines block place inst) (uses-none e)

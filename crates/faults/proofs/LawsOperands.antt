@@ -14,8 +14,9 @@ use Rattle.paper.specs.Report.{unallocated, lines-text, names-lines}
 use Rattle.cells.specs.Packed.{name-of-word}
 use Rattle.steps.specs.Actions.{no-register, register-of, operand-of, operands}
 use Rattle.report.specs.Lines.{fields-line}
-use Rattle.report.specs.declared.Field.the-variants as field
-use Rattle.faults.proofs.LawsFields.{missing-text}
+use Rattle.report.specs.declared.Position.{Position}
+use Rattle.faults.specs.Errors.{names-at}
+use Rattle.faults.proofs.LawsFields.{missing-fields, missing-text}
 use Rattle.faults.proofs.LawsPasses.{lines-append, one-line}
 
 one-append : (u : Operand) (xs ys : List Operand) (o : Option ℕ) → u .reg ≡ o → unallocated (xs ++ ys) ≡ unallocated xs ++ unallocated ys
@@ -39,23 +40,23 @@ module _ (w : ℕ) where
   none-missing e = rw (ne-eqb _ _ e)
 
 -- an operand's line, where it has no allocation
-module _ (block place inst w : ℕ) where
-  pub line-missing : w / 1024 ≡ no-register
-      → lines-text (names-lines block place inst (unallocated (operand-of w ∷ [])))
-      ≡ fields-line block place inst (record { kind = 1; location = field.Nothing; expected = field.Named w; actual = field.Nothing })
-  unfolding names-lines
-  line-missing e = rw (one-missing w e) (one-line _ ∙ sym (missing-text block place inst w))
+module _ (p : Position) (w : ℕ) where
+  pub line-missing : w / 1024 ≡ no-register → lines-text (names-at p (unallocated (operand-of w ∷ []))) ≡ fields-line p (missing-fields w)
+  unfolding names-at names-lines
+  line-missing e = rw (one-missing w e) (one-line _ ∙ sym (missing-text p w))
 
-  pub no-line-missing : (w / 1024 ≡ no-register → ⊥) → lines-text (names-lines block place inst (unallocated (operand-of w ∷ []))) ≡ []
-  unfolding names-lines lines-text
+  pub no-line-missing : (w / 1024 ≡ no-register → ⊥) → lines-text (names-at p (unallocated (operand-of w ∷ []))) ≡ []
+  unfolding names-at names-lines lines-text
   no-line-missing e = rw (none-missing w e)
 
 -- a loop's turn over the operands, which counts them or writes their lines
 module _ (from i : ℕ) (words : List ℕ) (h : from + i < length words) where
-  missing-more : unallocated (operands from (i + 1) words) ≡ unallocated (operands from i words) ++ unallocated (operand-of (getD words (from + i) 0) ∷ [])
+  missing-more : unallocated (operands from (i + 1) words)
+      ≡ unallocated (operands from i words) ++ unallocated (operand-of (getD words (from + i) 0) ∷ [])
   unfolding operands
   missing-more =
-      rw (region-more from i words h, map-append) (unallocated-append (map operand-of (region from i words)) (operand-of (getD words (from + i) 0) ∷ []))
+      rw (region-more from i words h, map-append)
+      (unallocated-append (map operand-of (region from i words)) (operand-of (getD words (from + i) 0) ∷ []))
 
   pub counted-more : (count : ℕ) → getD words (from + i) 0 / 1024 ≡ no-register → count ≡ length (unallocated (operands from i words))
       → count + 1 ≡ length (unallocated (operands from (i + 1) words))
@@ -65,17 +66,17 @@ module _ (from i : ℕ) (words : List ℕ) (h : from + i < length words) where
       → count ≡ length (unallocated (operands from (i + 1) words))
   counted-same count e c = rw (missing-more, none-missing _ e, append-nil) c
 
-  pub wrote-more : {l l₁ l₂ : List ℕ} {at j k : ℕ} (block place inst : ℕ)
-      → Wrote l at (lines-text (names-lines block place inst (unallocated (operands from i words)))) l₁ j
-      → Wrote l₁ j (lines-text (names-lines block place inst (unallocated (operand-of (getD words (from + i) 0) ∷ [])))) l₂ k
-      → Wrote l at (lines-text (names-lines block place inst (unallocated (operands from (i + 1) words)))) l₂ k
-  unfolding names-lines
-  wrote-more block place inst p q = rw (missing-more, map-append, lines-append) (then p q)
+  pub wrote-more : {l l₁ l₂ : List ℕ} {at j k : ℕ} (p : Position)
+      → Wrote l at (lines-text (names-at p (unallocated (operands from i words)))) l₁ j
+      → Wrote l₁ j (lines-text (names-at p (unallocated (operand-of (getD words (from + i) 0) ∷ [])))) l₂ k
+      → Wrote l at (lines-text (names-at p (unallocated (operands from (i + 1) words)))) l₂ k
+  unfolding names-at names-lines
+  wrote-more p before one = rw (missing-more, map-append, lines-append) (then before one)
 
 pub missing-none : (from : ℕ) (words : List ℕ) → unallocated (operands from 0 words) ≡ []
 unfolding operands region unallocated
 missing-none from words = refl
 
-pub wrote-none : (from : ℕ) (words l : List ℕ) (at block place inst : ℕ) → Wrote l at (lines-text (names-lines block place inst (unallocated (operands from 0 words)))) l at
-unfolding names-lines lines-text
-wrote-none from words l at block place inst = rw (missing-none from words) (record { list = refl; next = omega arith })
+pub wrote-none : (from : ℕ) (words l : List ℕ) (at : ℕ) (p : Position) → Wrote l at (lines-text (names-at p (unallocated (operands from 0 words)))) l at
+unfolding names-at names-lines lines-text
+wrote-none from words l at p = rw (missing-none from words) (record { list = refl; next = omega arith })

@@ -1,4 +1,4 @@
--- What a pass notes, one after the other, and what it notes of one step.
+-- What a pass leaves of lines one after the other, and of one step.
 use mathlib.Core.Path.{_≡_, refl, sym, _∙_}
 use mathlib.Core.List.{List, [], _∷_, _++_, append-nil, append-assoc}
 use mathlib.Core.Option.{Option, none, some}
@@ -6,12 +6,14 @@ use Prim.Native.Nat.{ℕ, _+_}
 use native.Mathlib.Omega.{arith}
 use lib.ListN.{length, length-append}
 use Rattle.lists.specs.Sets.{Wrote, then}
-use Rattle.paper.specs.Steps.{Fault, missing-allocation-for-reg, unknown-value-in-reg, incorrect-value-in-reg, unknown-value-in-slot, incorrect-value-in-slot, stack-map-specifies-non-ref-slot, stack-map-specifies-undefined-slot}
+use Rattle.paper.specs.Steps.{Fault}
+use Rattle.paper.specs.Steps as fault
 use Rattle.paper.specs.Report.{Line, kind-of, line-text, lines-text, line-of}
 use Rattle.report.specs.Lines.{fields-line}
+use Rattle.report.specs.declared.Position.{Position}
 use Rattle.report.specs.declared.FaultFields.{FaultFields}
-use Rattle.faults.specs.Errors.{kind-in, fields-in, FieldsOf}
-use Rattle.faults.specs.Passes.{noted-list, noted-size, Noted}
+use Rattle.faults.specs.Errors.{line-at, kind-in, fields-in, FieldsOf}
+use Rattle.faults.specs.Passes.{report-after, growth, AfterPass}
 use Rattle.faults.specs.declared.Pass.{Pass}
 use Rattle.faults.specs.declared.Pass.the-variants.{Count, Write}
 use Rattle.faults.proofs.LawsFields.{line-of-fields}
@@ -25,62 +27,63 @@ pub one-line : (l : Line) → lines-text (l ∷ []) ≡ line-text l
 unfolding lines-text
 one-line l = append-nil (line-text l)
 
-wrote-noted : {ls : List Line} {l l′ : List ℕ} {i j : ℕ} → Wrote l i (lines-text ls) l′ j → Noted Write ls l i l′ j
-unfolding noted-list noted-size
-wrote-noted w = record { list = w .list; next = w .next }
+wrote-pass : {ls : List Line} {l l′ : List ℕ} {i j : ℕ} → Wrote l i (lines-text ls) l′ j → AfterPass Write ls l i l′ j
+unfolding report-after growth
+wrote-pass w = record { list = w .list; next = w .next }
 
-pub noted-wrote : {ls : List Line} {l l′ : List ℕ} {i j : ℕ} → Noted Write ls l i l′ j → Wrote l i (lines-text ls) l′ j
-unfolding noted-list noted-size
-noted-wrote w = record { list = w .list; next = w .next }
+pub pass-wrote : {ls : List Line} {l l′ : List ℕ} {i j : ℕ} → AfterPass Write ls l i l′ j → Wrote l i (lines-text ls) l′ j
+unfolding report-after growth
+pass-wrote w = record { list = w .list; next = w .next }
 
-pub noted-none : (pass : Pass) (l : List ℕ) (i : ℕ) → Noted pass [] l i l i
-unfolding noted-list noted-size lines-text
-noted-none Count l i = record { list = refl; next = omega arith }
-noted-none Write l i = record { list = refl; next = omega arith }
+pub pass-none : (pass : Pass) (l : List ℕ) (i : ℕ) → AfterPass pass [] l i l i
+unfolding report-after growth lines-text
+pass-none Count l i = record { list = refl; next = omega arith }
+pass-none Write l i = record { list = refl; next = omega arith }
 
-pub noted-then : {pass : Pass} {xs ys : List Line} {l l₁ l₂ : List ℕ} {i j k : ℕ} → Noted pass xs l i l₁ j → Noted pass ys l₁ j l₂ k → Noted pass (xs ++ ys) l i l₂ k
-unfolding noted-list noted-size
-noted-then {pass = Count} p q = record { list = q .list ∙ p .list; next = rw length-append (omega arith) }
-noted-then {pass = Write} p q = wrote-noted (rw lines-append (then (noted-wrote p) (noted-wrote q)))
+pub pass-then : {pass : Pass} {xs ys : List Line} {l l₁ l₂ : List ℕ} {i j k : ℕ} → AfterPass pass xs l i l₁ j
+    → AfterPass pass ys l₁ j l₂ k → AfterPass pass (xs ++ ys) l i l₂ k
+unfolding report-after growth
+pass-then {pass = Count} p q = record { list = q .list ∙ p .list; next = rw length-append (omega arith) }
+pass-then {pass = Write} p q = wrote-pass (rw lines-append (then (pass-wrote p) (pass-wrote q)))
 
 -- one step
 
 some-kind : (fault : Fault) → kind-of fault ≡ 0 → ⊥
 unfolding kind-of
-some-kind (missing-allocation-for-reg n) e = omega arith
-some-kind (unknown-value-in-reg r) e = omega arith
-some-kind (incorrect-value-in-reg r x a) e = omega arith
-some-kind (unknown-value-in-slot k x) e = omega arith
-some-kind (incorrect-value-in-slot k x a) e = omega arith
-some-kind (stack-map-specifies-non-ref-slot k) e = omega arith
-some-kind (stack-map-specifies-undefined-slot k) e = omega arith
+some-kind (fault.missing-allocation-for-reg n) e = omega arith
+some-kind (fault.unknown-value-in-reg r) e = omega arith
+some-kind (fault.incorrect-value-in-reg r x a) e = omega arith
+some-kind (fault.unknown-value-in-slot k x) e = omega arith
+some-kind (fault.incorrect-value-in-slot k x a) e = omega arith
+some-kind (fault.stack-map-specifies-non-ref-slot k) e = omega arith
+some-kind (fault.stack-map-specifies-undefined-slot k) e = omega arith
 
-module _ (block place inst : ℕ) where
-  no-line : (o : Option Fault) → kind-in o ≡ 0 → line-of block place inst o ≡ []
-  unfolding kind-in line-of
+module _ (p : Position) where
+  no-line : (o : Option Fault) → kind-in o ≡ 0 → line-at p o ≡ []
+  unfolding kind-in line-at line-of
   no-line none e = refl
   no-line (some fault) e = absurd (some-kind fault e)
 
-  pub noted-nothing : {o : Option Fault} {f : FaultFields} (pass : Pass) (l : List ℕ) (i : ℕ) → FieldsOf o f → f .kind ≡ 0
-      → Noted pass (line-of block place inst o) l i l i
-  noted-nothing {o} pass l i F e = rw (no-line o (sym (F .kind) ∙ e)) (noted-none pass l i)
+  pub pass-nothing : {o : Option Fault} {f : FaultFields} (pass : Pass) (l : List ℕ) (i : ℕ) → FieldsOf o f → f .kind ≡ 0
+      → AfterPass pass (line-at p o) l i l i
+  pass-nothing {o} pass l i F e = rw (no-line o (sym (F .kind) ∙ e)) (pass-none pass l i)
 
-  one-more : (o : Option Fault) → (kind-in o ≡ 0 → ⊥) → length (line-of block place inst o) ≡ 1
-  unfolding kind-in line-of
+  one-more : (o : Option Fault) → (kind-in o ≡ 0 → ⊥) → length (line-at p o) ≡ 1
+  unfolding kind-in line-at line-of
   one-more none e = absurd (e refl)
   one-more (some fault) e = refl
 
-  pub noted-counted : {o : Option Fault} {f : FaultFields} (l : List ℕ) (i : ℕ) → FieldsOf o f → (f .kind ≡ 0 → ⊥)
-      → Noted Count (line-of block place inst o) l i l (i + 1)
-  unfolding noted-list noted-size
-  noted-counted {o} l i F e = record { list = refl; next = rw (one-more o (λ z. e (F .kind ∙ z))) (refl) }
+  pub pass-counted : {o : Option Fault} {f : FaultFields} (l : List ℕ) (i : ℕ) → FieldsOf o f → (f .kind ≡ 0 → ⊥)
+      → AfterPass Count (line-at p o) l i l (i + 1)
+  unfolding report-after growth
+  pass-counted {o} l i F e = record { list = refl; next = rw (one-more o (λ z. e (F .kind ∙ z))) (refl) }
 
   text-of-fault : (o : Option Fault) (f : FaultFields) → FieldsOf o f → (kind-in o ≡ 0 → ⊥)
-      → fields-line block place inst f ≡ lines-text (line-of block place inst o)
-  unfolding kind-in fields-in line-of line-text
+      → fields-line p f ≡ lines-text (line-at p o)
+  unfolding kind-in fields-in line-at line-of line-text
   text-of-fault none f F e = absurd (e refl)
-  text-of-fault (some fault) f F e = line-of-fields block place inst F ∙ sym (one-line _)
+  text-of-fault (some fault) f F e = line-of-fields p F ∙ sym (one-line _)
 
-  pub noted-written : {o : Option Fault} {f : FaultFields} {l l′ : List ℕ} {i j : ℕ} → FieldsOf o f → (f .kind ≡ 0 → ⊥)
-      → Wrote l i (fields-line block place inst f) l′ j → Noted Write (line-of block place inst o) l i l′ j
-  noted-written {o} {f} F e w = wrote-noted (rw (← text-of-fault o f F (λ z. e (F .kind ∙ z))) w)
+  pub pass-written : {o : Option Fault} {f : FaultFields} {l l′ : List ℕ} {i j : ℕ} → FieldsOf o f → (f .kind ≡ 0 → ⊥)
+      → Wrote l i (fields-line p f) l′ j → AfterPass Write (line-at p o) l i l′ j
+  pass-written {o} {f} F e w = wrote-pass (rw (← text-of-fault o f F (λ z. e (F .kind ∙ z))) w)

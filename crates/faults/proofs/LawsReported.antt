@@ -14,29 +14,31 @@ use Rattle.paper.specs.Answer.{said-of, answer-of, report-of}
 use Rattle.paper.specs.declared.Rule.{Rule}
 use Rattle.paper.specs.declared.Answer.the-variants.{Accepted, Faulty}
 use Rattle.steps.specs.Faults.{some-in}
-use Rattle.faults.specs.Passes.{noted-list, noted-size, Noted}
+use Rattle.faults.specs.Passes.{report-after, growth, AfterPass}
 use Rattle.report.specs.Laid.{wrote-laid}
+use Rattle.report.specs.declared.Position.{Position}
+use Rattle.faults.specs.Errors.{names-at}
 use Rattle.faults.specs.Reported.{Reported}
 use Rattle.faults.specs.declared.Pass.the-variants.{Count, Write}
-use Rattle.faults.proofs.LawsPasses.{noted-wrote}
+use Rattle.faults.proofs.LawsPasses.{pass-wrote}
 
 -- the whole text
-wrote-report : (rule : Rule) (ls : List Line) {l l₁ l₂ : List ℕ} {j k : ℕ} → Wrote l 0 (header-text rule (length ls)) l₁ j → Wrote l₁ j (lines-text ls) l₂ k
-    → Wrote l 0 (report-text rule ls) l₂ k
+wrote-report : (rule : Rule) (ls : List Line) {l l₁ l₂ : List ℕ} {j k : ℕ} → Wrote l 0 (header-text rule (length ls)) l₁ j
+    → Wrote l₁ j (lines-text ls) l₂ k → Wrote l 0 (report-text rule ls) l₂ k
 unfolding report-text
 wrote-report rule ls p q = then p q
 
 -- what is said of lines, and of none
-faulty : {rule : Rule} (ls : List Line) {l l′ : List ℕ} {k : ℕ} → Wrote l 0 (report-text rule ls) l′ k → (length ls ≡ 0 → ⊥) → k ≤ report-size → report-size ≤ length l
-    → Reported rule ls l (Faulty k) l′
+faulty : {rule : Rule} (ls : List Line) {l l′ : List ℕ} {k : ℕ} → Wrote l 0 (report-text rule ls) l′ k → (length ls ≡ 0 → ⊥)
+    → k ≤ report-size → report-size ≤ length l → Reported rule ls l (Faulty k) l′
 unfolding said-of answer-of report-of
 faulty [] w n small fits = absurd (n refl)
 faulty {rule} (x ∷ xs) {k} w n small fits =
     let e : k ≡ length (report-text rule (x ∷ xs)) = omega (arith, w .next) in
     record { answer = ap Faulty e; text = wrote-laid w (omega arith); fits = omega (arith, e) }
 
-accepted : {rule : Rule} (ls : List Line) {l l′ : List ℕ} {k : ℕ} → Wrote l 0 (report-text rule ls) l′ k → length ls ≡ 0 → k ≤ report-size → report-size ≤ length l
-    → Reported rule ls l (Accepted k) l′
+accepted : {rule : Rule} (ls : List Line) {l l′ : List ℕ} {k : ℕ} → Wrote l 0 (report-text rule ls) l′ k → length ls ≡ 0
+    → k ≤ report-size → report-size ≤ length l → Reported rule ls l (Accepted k) l′
 unfolding said-of answer-of report-of
 accepted {rule} [] {k} w n small fits =
     let e : k ≡ length (report-text rule []) = omega (arith, w .next) in
@@ -55,29 +57,33 @@ no-lines [] e = refl
 no-lines (l ∷ ls) e = absurd (omega arith)
 
 -- the header alone
-pub reported-accepted : {rule : Rule} {ls : List Line} {l l₁ : List ℕ} {j : ℕ} → Wrote l 0 (header-text rule (length ls)) l₁ j → length ls ≡ 0
-    → j ≤ report-size → report-size ≤ length l → Reported rule ls l (Accepted j) l₁
-reported-accepted {rule} {ls} p n small fits = accepted ls (wrote-report rule ls p (rw (no-lines ls n) (record { list = refl; next = omega arith }))) n small fits
+pub reported-accepted : {rule : Rule} {ls : List Line} {l l₁ : List ℕ} {j : ℕ} → Wrote l 0 (header-text rule (length ls)) l₁ j
+    → length ls ≡ 0 → j ≤ report-size → report-size ≤ length l → Reported rule ls l (Accepted j) l₁
+reported-accepted {rule} {ls} {l₁} {j} p n small fits =
+    let none : Wrote l₁ j (lines-text ls) l₁ j = rw (no-lines ls n) (record { list = refl; next = omega arith }) in
+    accepted ls (wrote-report rule ls p none) n small fits
 
 -- what is reported
 
-counted : {ls : List Line} {l l₁ : List ℕ} {count : ℕ} → Noted Count ls l 0 l₁ count → count ≡ length ls
-unfolding noted-size
+counted : {ls : List Line} {l l₁ : List ℕ} {count : ℕ} → AfterPass Count ls l 0 l₁ count → count ≡ length ls
+unfolding growth
 counted n = omega (arith, n .next)
 
-headed : (rule : Rule) {ls : List Line} {l l₁ l₂ : List ℕ} {count j : ℕ} → Noted Count ls l 0 l₁ count → Wrote l₁ 0 (header-text rule count) l₂ j
-    → Wrote l 0 (header-text rule (length ls)) l₂ j
-unfolding noted-list
-headed rule n h = rw (← n .list, ← counted n) h
+behind-count : (rule : Rule) {ls : List Line} {l l₁ l₂ : List ℕ} {count j : ℕ} → AfterPass Count ls l 0 l₁ count
+    → Wrote l₁ 0 (header-text rule count) l₂ j → Wrote l 0 (header-text rule (length ls)) l₂ j
+unfolding report-after
+behind-count rule n h = rw (← n .list, ← counted n) h
 
-module _ {rule : Rule} {ls : List Line} {l l₁ l₂ : List ℕ} {count j : ℕ} (n : Noted Count ls l 0 l₁ count) (h : Wrote l₁ 0 (header-text rule count) l₂ j) where
+module _ {rule : Rule} {ls : List Line} {l l₁ l₂ : List ℕ} {count j : ℕ} (n : AfterPass Count ls l 0 l₁ count)
+    (h : Wrote l₁ 0 (header-text rule count) l₂ j) where
   -- no fault was counted
   pub errors-accepted : count ≡ 0 → j ≤ report-size → report-size ≤ length l → Reported rule ls l (Accepted j) l₂
-  errors-accepted z small fits = reported-accepted (headed rule n h) (sym (counted n) ∙ z) small fits
+  errors-accepted z small fits = reported-accepted (behind-count rule n h) (sym (counted n) ∙ z) small fits
 
   -- the faults that were counted are written
-  pub errors-faulty : {l₃ : List ℕ} {k : ℕ} → (count ≡ 0 → ⊥) → Noted Write ls l₂ j l₃ k → k ≤ report-size → report-size ≤ length l → Reported rule ls l (Faulty k) l₃
-  errors-faulty z w small fits = reported-faulty (headed rule n h) (noted-wrote w) (λ e. z (counted n ∙ e)) small fits
+  pub errors-faulty : {l₃ : List ℕ} {k : ℕ} → (count ≡ 0 → ⊥) → AfterPass Write ls l₂ j l₃ k → k ≤ report-size → report-size ≤ length l
+      → Reported rule ls l (Faulty k) l₃
+  errors-faulty z w small fits = reported-faulty (behind-count rule n h) (pass-wrote w) (λ e. z (counted n ∙ e)) small fits
 
 pub faults-found : (rule : Rule) (S : Sheet) → missing-allocations S ≡ [] → faults rule S ≡ find-errors rule S
 unfolding faults first-list
@@ -88,16 +94,16 @@ unfolding some-in
 some-long [] s e = true≢false (sym s)
 some-long (x ∷ xs) s e = omega arith
 
-names-long : (block place inst : ℕ) (names : List Name) → length (names-lines block place inst names) ≡ length names
-unfolding names-lines
-names-long block place inst [] = refl
-names-long block place inst (n ∷ names) = ap suc (names-long block place inst names)
+names-long : (p : Position) (names : List Name) → length (names-at p names) ≡ length names
+unfolding names-at names-lines
+names-long p [] = refl
+names-long p (n ∷ names) = ap suc (names-long p names)
 
 -- the lines of names that have no allocation
-pub reported-names : {rule : Rule} {l l₁ l₂ : List ℕ} {j k : ℕ} (block place inst : ℕ) (names : List Name) (count : ℕ) → count ≡ length names
-    → Wrote l 0 (header-text rule count) l₁ j → Wrote l₁ j (lines-text (names-lines block place inst names)) l₂ k → some-in names ≡ true
-    → k ≤ report-size → report-size ≤ length l → Reported rule (names-lines block place inst names) l (Faulty k) l₂
-reported-names block place inst names count e p q s small fits =
-    let long : length (names-lines block place inst names) ≡ length names = names-long block place inst names in
-    let c : count ≡ length (names-lines block place inst names) = e ∙ sym long in
-    reported-faulty (rw c at p) q (λ z. some-long names s (sym long ∙ z)) small fits
+pub reported-names : {rule : Rule} {l l₁ l₂ : List ℕ} {j k : ℕ} (p : Position) (names : List Name) (count : ℕ) → count ≡ length names
+    → Wrote l 0 (header-text rule count) l₁ j → Wrote l₁ j (lines-text (names-at p names)) l₂ k → some-in names ≡ true
+    → k ≤ report-size → report-size ≤ length l → Reported rule (names-at p names) l (Faulty k) l₂
+reported-names p names count e head lines s small fits =
+    let long : length (names-at p names) ≡ length names = names-long p names in
+    let c : count ≡ length (names-at p names) = e ∙ sym long in
+    reported-faulty (rw c at head) lines (λ z. some-long names s (sym long ∙ z)) small fits

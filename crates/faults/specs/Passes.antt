@@ -9,15 +9,16 @@ use Rattle.paper.specs.Report.{Line, lines-text}
 use Rattle.faults.specs.declared.Pass.{Pass}
 use Rattle.faults.specs.declared.Pass.the-variants.{Count, Write}
 
-unfoldable pub noted-list : Pass → List Line → List ℕ → ℕ → List ℕ
-noted-list Count ls report at = report
-noted-list Write ls report at = sets report at (lines-text ls)
+unfoldable pub report-after : Pass → List Line → List ℕ → ℕ → List ℕ
+report-after Count ls report at = report
+report-after Write ls report at = sets report at (lines-text ls)
 
-unfoldable pub noted-size : Pass → List Line → ℕ
-noted-size Count ls = length ls
-noted-size Write ls = length (lines-text ls)
+-- by how much its number grows
+unfoldable pub growth : Pass → List Line → ℕ
+growth Count ls = length ls
+growth Write ls = length (lines-text ls)
 
 -- the lines ls were counted, or written at `at`
-pub record Noted (pass : Pass) (ls : List Line) (report : List ℕ) (at : ℕ) (report′ : List ℕ) (r : ℕ) : Type 0 where
-  pub list : report′ ≡ noted-list pass ls report at
-  pub next : r ≡ at + noted-size pass ls
+pub record AfterPass (pass : Pass) (ls : List Line) (report : List ℕ) (at : ℕ) (report′ : List ℕ) (r : ℕ) : Type 0 where
+  pub list : report′ ≡ report-after pass ls report at
+  pub next : r ≡ at + growth pass ls

@@ -6,15 +6,15 @@ ghost use Prim.Native.Nat.{_+_, _*_, _≤_, _<_};
 ghost use lib.ListN.{length, getD};
 ghost use Rattle.lists.specs.Sets.{Wrote};
 ghost use Rattle.paper.specs.Sheet.{steps-of};
-ghost use Rattle.paper.specs.Limits.{max-blocks, max-operands, max-steps, report-size};
-ghost use Rattle.paper.specs.Report.{block-faults, find-errors, unallocated, missing-from, faults, lines-text, line-of, names-lines};
+ghost use Rattle.paper.specs.Limits.{max-operands, max-steps, longest-fault-line, report-size};
+ghost use Rattle.paper.specs.Report.{block-faults, find-errors, unallocated, missing-from, faults, lines-text};
 ghost use Rattle.layout.specs.Layout.{blocks-word};
 ghost use Rattle.steps.specs.Actions.{operand-of, operands};
 ghost use Rattle.steps.specs.Faults.{fault-of, some-in};
 ghost use Rattle.sheet.specs.Loaded.{step-total, sheet-of, Loaded};
-ghost use Rattle.report.specs.Lines.{longest-line};
-ghost use Rattle.faults.specs.Errors.{FieldsOf, ErrorWithin};
-ghost use Rattle.faults.specs.Passes.{Noted};
+ghost use Rattle.report.specs.Lines.{PositionWithin};
+ghost use Rattle.faults.specs.Errors.{FieldsOf, ErrorWithin, line-at, names-at};
+ghost use Rattle.faults.specs.Passes.{AfterPass};
 ghost use Rattle.faults.specs.Missing.{is-found, MissingIs, MissingOf};
 ghost use Rattle.faults.specs.Reported.{Checkable, Reported};
 ghost use Rattle.faults.specs.declared.Missing.the-variants.{Found};
@@ -31,6 +31,7 @@ use paper::Answer;
 use paper::Rule;
 use report::FaultFields;
 use report::Field;
+use report::Position;
 use steps::Action;
 use steps::CheckerError;
 use steps::NO_REGISTER;
@@ -105,18 +106,16 @@ fn fields_of(error: CheckerError) -> FaultFields
     }
 }
 
-// A step's fault, if there is one, is counted or written.
-fn note(
+// A step's fault, if there is one, is counted or its line written.
+fn count_or_write(
     pass: Pass,
     report: &mut [u8],
     at: usize,
-    block: usize,
-    place: usize,
-    inst: u16,
+    position: Position,
     error: CheckerError,
 ) -> usize
-    requires { ⌜ (block < max-blocks) × (place < max-steps) × ErrorWithin error × (at + longest-line ≤ length (now report)) ⌝ }
-    ensures { λ r. ⌜ Noted pass (line-of block place inst (fault-of error)) (now (report .entry)) at (now (report .exit)) r × (r ≤ at + longest-line) ⌝ }
+    requires { ⌜ PositionWithin position × ErrorWithin error × (at + longest-fault-line ≤ length (now report)) ⌝ }
+    ensures { λ r. ⌜ AfterPass pass (line-at position (fault-of error)) (now (report .entry)) at (now (report .exit)) r × (r ≤ at + longest-fault-line) ⌝ }
 {
     let fault = fields_of(error);
     if fault.kind == 0 {
@@ -124,7 +123,7 @@ fn note(
     }
     match pass {
         Pass::Count => at + 1,
-        Pass::Write => report::write_line(report, at, block, place, inst, fault),
+        Pass::Write => report::write_line(report, at, position, fault),
     }
 }
 
@@ -145,22 +144,15 @@ fn count_missing(words: &[u16], from: usize, n: usize) -> usize
 }
 
 // An operand's line, where it has no allocation.
-fn write_operand(
-    report: &mut [u8],
-    at: usize,
-    block: usize,
-    place: usize,
-    inst: u16,
-    operand: u16,
-) -> usize
-    requires { ⌜ (block < max-blocks) × (place < max-steps) × (at + longest-line ≤ length (now report)) ⌝ }
-    ensures { λ r. ⌜ Wrote (now (report .entry)) at (lines-text (names-lines block place inst (unallocated (operand-of operand ∷ [])))) (now (report .exit)) r × (r ≤ at + longest-line) ⌝ }
+fn write_operand(report: &mut [u8], at: usize, position: Position, operand: u16) -> usize
+    requires { ⌜ PositionWithin position × (at + longest-fault-line ≤ length (now report)) ⌝ }
+    ensures { λ r. ⌜ Wrote (now (report .entry)) at (lines-text (names-at position (unallocated (operand-of operand ∷ [])))) (now (report .exit)) r × (r ≤ at + longest-fault-line) ⌝ }
 {
     if operand / 1024 != NO_REGISTER {
         return at;
     }
     let fault = fault_fields(1, Field::Nothing, Field::Named(operand), Field::Nothing);
-    report::write_line(report, at, block, place, inst, fault)
+    report::write_line(report, at, position, fault)
 }
 
 // A line for each of n operands from `from` on that has no allocation.
@@ -170,17 +162,15 @@ fn write_names(
     n: usize,
     report: &mut [u8],
     at: usize,
-    block: usize,
-    place: usize,
-    inst: u16,
+    position: Position,
 ) -> usize
-    requires { ⌜ (from + n ≤ length (now words)) × (block < max-blocks) × (place < max-steps) × (at + longest-line * n ≤ length (now report)) ⌝ }
-    ensures { λ r. ⌜ Wrote (now (report .entry)) at (lines-text (names-lines block place inst (unallocated (operands from n (now (words .entry)))))) (now (report .exit)) r × (r ≤ at + longest-line * n) ⌝ }
+    requires { ⌜ (from + n ≤ length (now words)) × PositionWithin position × (at + longest-fault-line * n ≤ length (now report)) ⌝ }
+    ensures { λ r. ⌜ Wrote (now (report .entry)) at (lines-text (names-at position (unallocated (operands from n (now (words .entry)))))) (now (report .exit)) r × (r ≤ at + longest-fault-line * n) ⌝ }
 {
     let mut next = at;
     let mut i = 0;
     while i < n {
-        next = write_operand(report, next, block, place, inst, words[from + i]);
+        next = write_operand(report, next, position, words[from + i]);
         i += 1;
     }
     next
@@ -193,16 +183,14 @@ fn write_missing_among(
     from: usize,
     n: usize,
     report: &mut [u8],
-    block: usize,
-    place: usize,
-    inst: u16,
+    position: Position,
 ) -> Answer
-    requires { ⌜ (from + n ≤ length (now words)) × (n ≤ max-operands) × (block < max-blocks) × (place < max-steps) × (report-size ≤ length (now report)) × (some-in (unallocated (operands from n (now words))) ≡ true) ⌝ }
-    ensures { λ r. ⌜ Reported rule (names-lines block place inst (unallocated (operands from n (now (words .entry))))) (now (report .entry)) r (now (report .exit)) ⌝ }
+    requires { ⌜ (from + n ≤ length (now words)) × (n ≤ max-operands) × PositionWithin position × (report-size ≤ length (now report)) × (some-in (unallocated (operands from n (now words))) ≡ true) ⌝ }
+    ensures { λ r. ⌜ Reported rule (names-at position (unallocated (operands from n (now (words .entry))))) (now (report .entry)) r (now (report .exit)) ⌝ }
 {
     let missing = count_missing(words, from, n);
     let next = report::write_header(report, 0, rule, missing);
-    Answer::Faulty(write_names(words, from, n, report, next, block, place, inst))
+    Answer::Faulty(write_names(words, from, n, report, next, position))
 }
 
 // The report of a sheet whose first step that has an operand with no allocation is the k-th: all its missing uses in order, or,
@@ -227,19 +215,11 @@ pub fn write_missing(
     else {
         return Answer::Accepted(0);
     };
+    let position = Position { block, place, inst };
     if steps::missing_among(words, at, uses) {
-        return write_missing_among(rule, words, at, uses, report, block, place, inst);
+        return write_missing_among(rule, words, at, uses, report, position);
     }
-    write_missing_among(
-        rule,
-        words,
-        at + DEFS_FROM,
-        defs,
-        report,
-        block,
-        place,
-        inst,
-    )
+    write_missing_among(rule, words, at + DEFS_FROM, defs, report, position)
 }
 
 // The first step of a block that has an operand with no allocation.
@@ -298,8 +278,8 @@ fn check_block(
     at: usize,
     block: usize,
 ) -> usize
-    requires { ⌜ Checkable rule (now words) × (block < getD (now words) blocks-word 0) × (at + longest-line * step-total (now words) block ≤ length (now report)) ⌝ }
-    ensures { λ r. ⌜ Noted pass (block-faults rule (sheet-of (now (words .entry))) block) (now (report .entry)) at (now (report .exit)) r × (r ≤ at + longest-line * step-total (now (words .entry)) block) ⌝ }
+    requires { ⌜ Checkable rule (now words) × (block < getD (now words) blocks-word 0) × (at + longest-fault-line * step-total (now words) block ≤ length (now report)) ⌝ }
+    ensures { λ r. ⌜ AfterPass pass (block-faults rule (sheet-of (now (words .entry))) block) (now (report .entry)) at (now (report .exit)) r × (r ≤ at + longest-fault-line * step-total (now (words .entry)) block) ⌝ }
 {
     let regs = words[REGS_WORD] as usize;
     let slots = words[SLOTS_WORD] as usize;
@@ -312,15 +292,9 @@ fn check_block(
     while place < count {
         let action = steps::action_at(words, first + place);
         let error = steps::check(words, t, action);
-        next = note(
-            pass,
-            report,
-            next,
-            block,
-            place,
-            steps::inst_of(action),
-            error,
-        );
+        let inst = steps::inst_of(action);
+        let position = Position { block, place, inst };
+        next = count_or_write(pass, report, next, position, error);
         let u = steps::update(words, rule, t, regs, slots, action);
         t = u;
         place += 1;
@@ -330,8 +304,8 @@ fn check_block(
 
 // Every block's steps, from its entry state.
 fn find_errors(pass: Pass, rule: Rule, words: &[u16], report: &mut [u8], at: usize) -> usize
-    requires { ⌜ Checkable rule (now words) × (at + longest-line * max-steps ≤ length (now report)) ⌝ }
-    ensures { λ r. ⌜ Noted pass (find-errors rule (sheet-of (now (words .entry)))) (now (report .entry)) at (now (report .exit)) r × (r ≤ at + longest-line * max-steps) ⌝ }
+    requires { ⌜ Checkable rule (now words) × (at + longest-fault-line * max-steps ≤ length (now report)) ⌝ }
+    ensures { λ r. ⌜ AfterPass pass (find-errors rule (sheet-of (now (words .entry)))) (now (report .entry)) at (now (report .exit)) r × (r ≤ at + longest-fault-line * max-steps) ⌝ }
 {
     let blocks = words[BLOCKS_WORD] as usize;
     let mut next = at;

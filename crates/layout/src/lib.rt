@@ -27,8 +27,13 @@ pub const MAX_STEPS: usize = 1024;
 // Bytes of a sheet.
 pub const MAX_SHEET: usize = 65536;
 
-// The report: a line of 32 bytes for each step, and the header.
-pub const REPORT_SIZE: usize = MAX_STEPS * 32 + 16;
+// Bytes of a fault's line, and of the header.
+pub const LONGEST_FAULT_LINE: usize = 32;
+
+pub const LONGEST_HEADER: usize = 16;
+
+// The report: a line for each step, and the header.
+pub const REPORT_SIZE: usize = MAX_STEPS * LONGEST_FAULT_LINE + LONGEST_HEADER;
 
 // The words: those of the layout below, and room for 128 blocks and argument cells.
 pub const WORDS_SIZE: usize = 32768;

@@ -4,6 +4,7 @@
 use mathlib.Core.Bool.{Bool, cond, _||_}
 use mathlib.Core.List.{List, [], _∷_, _++_}
 use Prim.Native.Nat.{ℕ}
+use Prim.Native.Char.{code}
 use lib.Dec.{ltb}
 use lib.ListN.{length, drop, replicate}
 use Rattle.paper.specs.Text.{Bytes, digits}
@@ -36,7 +37,7 @@ answer rule sheet = said-after rule (read sheet)
 
 -- what a program writes: the report, or `X number line`
 abbrev pub letter-X : ℕ
-letter-X = 88
+letter-X = code "X"
 
 unfoldable pub written : Said → Bytes
 written (accepted text) = text
@@ -49,9 +50,9 @@ pub record Lent : Type 0 where
   pub words : List ℕ
   pub queue : List ℕ
 
--- 1: "report shorter than 32,784 bytes, or a scratch buffer shorter than its published size"
-unfoldable pub too-short : Lent → Bool
-too-short lent = ltb (length (lent .report)) report-size || (ltb (length (lent .words)) words-size || ltb (length (lent .queue)) queue-size)
+-- 1: "report shorter than 32,784 bytes, or a scratch buffer shorter than its published size"; `size` is the report's
+unfoldable pub too-short : (size : ℕ) → Lent → Bool
+too-short size lent = ltb (length (lent .report)) size || (ltb (length (lent .words)) words-size || ltb (length (lent .queue)) queue-size)
 
 -- a text at the start of a buffer, "and later bytes keep their values"
 unfoldable pub laid : Bytes → List ℕ → List ℕ
@@ -84,4 +85,4 @@ outcome-of said lent =
 
 -- "First 1"; "Refusal 1 changes nothing"
 unfoldable pub outcome : Rule → Bytes → Lent → Outcome
-outcome rule sheet lent = cond (too-short lent) (record { answer = Refused (record { number = 1; line = 0 }); lent = lent }) (outcome-of (answer rule sheet) lent)
+outcome rule sheet lent = cond (too-short report-size lent) (record { answer = Refused (record { number = 1; line = 0 }); lent = lent }) (outcome-of (answer rule sheet) lent)

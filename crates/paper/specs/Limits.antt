@@ -33,9 +33,15 @@ max-steps = 1024
 abbrev pub max-sheet : ℕ
 max-sheet = 65536
 
--- "The longest line is 32 bytes: 1,024 x 32 + 16 = 32,784."
+-- "The longest line is 32 bytes: 1,024 x 32 + 16 = 32,784.": a fault's line for each step, and 16 bytes for the header
+abbrev pub longest-fault-line : ℕ
+longest-fault-line = 32
+
+abbrev pub longest-header : ℕ
+longest-header = 16
+
 abbrev pub report-size : ℕ
-report-size = max-steps * 32 + 16
+report-size = max-steps * longest-fault-line + longest-header
 
 -- the published sizes of the scratch: words of 16 bits for the loaded sheet and the states, bytes for the queue, which has room
 -- for every visit that the old run can make

@@ -3,6 +3,7 @@
 use mathlib.Core.List.{List, [], _∷_, _++_, map}
 use mathlib.Core.Option.{Option, none, some}
 use Prim.Native.Nat.{ℕ, suc, zero}
+use Prim.Native.Char.{code}
 use lib.ListN.{length}
 use Rattle.paper.specs.Text.{Bytes, tab, line-feed, hyphen, digits, Name, letter-r, name-text}
 use Rattle.paper.specs.Sheet.{Operand, Step, spill, reload, move, change, operation, safepoint, Sheet, steps-of, reference-typed}
@@ -103,7 +104,7 @@ kind-of (stack-map-specifies-non-ref-slot k) = 6
 kind-of (stack-map-specifies-undefined-slot k) = 7
 
 abbrev pub letter-s : ℕ
-letter-s = 115
+letter-s = code "s"
 
 abbrev pub nothing : Bytes
 nothing = hyphen ∷ []
@@ -133,10 +134,10 @@ behind-tabs [] = line-feed ∷ []
 behind-tabs (f ∷ fs) = tab ∷ (f ++ behind-tabs fs)
 
 abbrev pub letter-E : ℕ
-letter-E = 69
+letter-E = code "E"
 
 abbrev pub letter-R : ℕ
-letter-R = 82
+letter-R = code "R"
 
 -- `E block place inst kind where expected actual`
 unfoldable pub line-text : Line → Bytes
@@ -148,8 +149,8 @@ lines-text (l ∷ ls) = line-text l ++ lines-text ls
 
 -- "rule being `old` or `house`"
 unfoldable pub rule-text : Rule → Bytes
-rule-text Old = 111 ∷ 108 ∷ 100 ∷ []
-rule-text House = 104 ∷ 111 ∷ 117 ∷ 115 ∷ 101 ∷ []
+rule-text Old = code "o" ∷ code "l" ∷ code "d" ∷ []
+rule-text House = code "h" ∷ code "o" ∷ code "u" ∷ code "s" ∷ code "e" ∷ []
 
 -- "Header `R rule count`"
 unfoldable pub header-text : Rule → ℕ → Bytes

@@ -8,10 +8,12 @@ use Rattle.paper.specs.Report.{behind-tabs, rule-text, header-text}
 use Rattle.paper.specs.declared.Rule.{Rule}
 use Rattle.report.specs.Lines.{field-text, field-texts, fields-line}
 use Rattle.report.specs.Lengths.{behind, behind-none}
+use Rattle.report.specs.declared.Position.{Position}
 use Rattle.report.specs.declared.FaultFields.{FaultFields}
 
 pub fields-room : (f : FaultFields) (at n : ℕ) → at + length (behind-tabs (digits (f .kind) ∷ field-texts f)) ≤ n
-    → at + 5 + length (digits (f .kind)) + length (field-text (f .location)) + length (field-text (f .expected)) + length (field-text (f .actual)) ≤ n
+    → at + 5 + length (digits (f .kind)) + length (field-text (f .location)) + length (field-text (f .expected))
+    + length (field-text (f .actual)) ≤ n
 unfolding field-texts
 fields-room f at n h =
     omega (
@@ -23,12 +25,18 @@ fields-room f at n h =
       behind-none,
     )
 
-pub line-room : (block place inst : ℕ) (f : FaultFields) (at n : ℕ) → at + length (fields-line block place inst f) ≤ n
-    → at + 4 + length (digits block) + length (digits place) + length (digits inst) + length (behind-tabs (digits (f .kind) ∷ field-texts f)) ≤ n
+pub line-room : (p : Position) (f : FaultFields) (at n : ℕ) → at + length (fields-line p f) ≤ n
+    → at + 4 + length (digits (p .block)) + length (digits (p .place)) + length (digits (p .inst))
+    + length (behind-tabs (digits (f .kind) ∷ field-texts f)) ≤ n
 unfolding fields-line
-line-room block place inst f at n h =
+line-room p f at n h =
     let rest = digits (f .kind) ∷ field-texts f in
-    omega (arith, behind (digits block) (digits place ∷ digits inst ∷ rest), behind (digits place) (digits inst ∷ rest), behind (digits inst) rest)
+    omega (
+      arith,
+      behind (digits (p .block)) (digits (p .place) ∷ digits (p .inst) ∷ rest),
+      behind (digits (p .place)) (digits (p .inst) ∷ rest),
+      behind (digits (p .inst)) rest,
+    )
 
 pub header-room : (rule : Rule) (count at n : ℕ) → at + length (header-text rule count) ≤ n
     → at + 4 + length (rule-text rule) + length (digits count) ≤ n

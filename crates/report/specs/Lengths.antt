@@ -7,13 +7,16 @@ use borrow.Author.Tests.{lt-ltb, le-ltb}
 use lib.ListN.{length, length-append}
 use Rattle.lists.specs.Split.{by-order}
 use Rattle.fields.specs.Spelling.{length-one, length-two, length-three, length-four, length-digits}
-use Rattle.paper.specs.Limits.{max-blocks, max-steps}
+use Rattle.paper.specs.Limits.{max-regs, max-slots, longest-fault-line, longest-header}
 use Rattle.paper.specs.Text.{Bytes, digits, name-text}
-use Rattle.paper.specs.Report.{behind-tabs, rule-text, letter-E, header-text}
+use Rattle.paper.specs.Report.{slot-text, behind-tabs, rule-text, header-text}
 use Rattle.paper.specs.declared.Rule.{Rule}
 use Rattle.paper.specs.declared.Rule.the-variants.{Old, House}
 use Rattle.cells.specs.Packed.{name-of-word}
-use Rattle.report.specs.Lines.{longest-line}
+use Rattle.report.specs.Lines.{field-text, field-texts, fields-line, PositionWithin}
+use Rattle.report.specs.declared.Field.the-variants.{Nothing, Register, Slot, Named}
+use Rattle.report.specs.declared.Position.{Position}
+use Rattle.report.specs.declared.FaultFields.{FaultFields}
 
 -- how long a text is, by its fields
 
@@ -27,7 +30,7 @@ behind-none = refl
 
 -- how long it can get
 
-pub header-short : (rule : Rule) (count : ℕ) → length (header-text rule count) ≤ 16
+pub header-short : (rule : Rule) (count : ℕ) → length (header-text rule count) ≤ longest-header
 unfolding header-text rule-text
 header-short Old count = omega (arith, behind (rule-text Old) (digits count ∷ []), behind (digits count) [], behind-none, length-digits count)
 header-short House count = omega (arith, behind (rule-text House) (digits count ∷ []), behind (digits count) [], behind-none, length-digits count)
@@ -39,22 +42,50 @@ name-short w =
     (λ h. rw (lt-ltb (w % 512) 256 h) (omega (arith, length-three (w % 512) (omega arith))))
     λ h. rw (le-ltb (w % 512) 256 h) (omega (arith, length-three (w % 512 - 256) (omega arith)))
 
+-- a field of each kind
+pub nothing-short : length (field-text Nothing) ≡ 1
+unfolding field-text
+nothing-short = refl
+
+pub register-short : (r : ℕ) → r < max-regs → length (field-text (Register r)) ≤ 3
+unfolding field-text
+register-short r h = omega (arith, length-two r (omega arith))
+
+pub slot-short : (k : ℕ) → k < max-slots → length (field-text (Slot k)) ≤ 3
+unfolding field-text slot-text
+slot-short k h = omega (arith, length-two k (omega arith))
+
+pub named-short : (w : ℕ) → length (field-text (Named w)) ≤ 4
+unfolding field-text
+named-short w = name-short w
+
+-- the fields that make a line long
+pub record ShortFields (f : FaultFields) : Type 0 where
+  pub kind : f .kind < 10
+  pub location : length (field-text (f .location)) ≤ 3
+  pub expected : length (field-text (f .expected)) ≤ 4
+  pub actual : length (field-text (f .actual)) ≤ 4
+
 -- "The longest line is 32 bytes"
-pub line-short : (block place inst kind : ℕ) (x y z : Bytes) → block < max-blocks → place < max-steps → kind < 10 → length x ≤ 3 → length y ≤ 4 → length z ≤ 4
-    → length (letter-E ∷ behind-tabs (digits block ∷ digits place ∷ digits inst ∷ digits kind ∷ x ∷ y ∷ z ∷ [])) ≤ longest-line
-line-short block place inst kind x y z hb hp hk hx hy hz =
+pub line-short : (p : Position) (f : FaultFields) → PositionWithin p → ShortFields f → length (fields-line p f) ≤ longest-fault-line
+unfolding fields-line field-texts
+line-short p f within s =
+    let x = field-text (f .location) in
+    let y = field-text (f .expected) in
+    let z = field-text (f .actual) in
     omega (
       arith,
-      behind (digits block) (digits place ∷ digits inst ∷ digits kind ∷ x ∷ y ∷ z ∷ []),
-      behind (digits place) (digits inst ∷ digits kind ∷ x ∷ y ∷ z ∷ []),
-      behind (digits inst) (digits kind ∷ x ∷ y ∷ z ∷ []),
-      behind (digits kind) (x ∷ y ∷ z ∷ []),
+      behind (digits (p .block)) (digits (p .place) ∷ digits (p .inst) ∷ digits (f .kind) ∷ x ∷ y ∷ z ∷ []),
+      behind (digits (p .place)) (digits (p .inst) ∷ digits (f .kind) ∷ x ∷ y ∷ z ∷ []),
+      behind (digits (p .inst)) (digits (f .kind) ∷ x ∷ y ∷ z ∷ []),
+      behind (digits (f .kind)) (x ∷ y ∷ z ∷ []),
       behind x (y ∷ z ∷ []),
       behind y (z ∷ []),
       behind z [],
       behind-none,
-      length-two block (omega arith),
-      length-four place (omega arith),
-      length-digits inst,
-      length-one kind hk,
+      length-two (p .block) (omega arith),
+      length-four (p .place) (omega arith),
+      length-digits (p .inst),
+      length-one (f .kind) (s .kind),
+      s,
     )

@@ -4,10 +4,10 @@ ghost use Prim.Native.Nat.{_+_, _≤_, _<_};
 ghost use lib.ListN.{length};
 ghost use Rattle.lists.specs.Sets.{Wrote};
 ghost use Rattle.paper.specs.Text.{tab, digits, name-text};
-ghost use Rattle.paper.specs.Limits.{max-blocks, max-steps};
+ghost use Rattle.paper.specs.Limits.{report-size};
 ghost use Rattle.paper.specs.Report.{behind-tabs, rule-text, header-text};
 ghost use Rattle.cells.specs.Packed.{name-of-word};
-ghost use Rattle.report.specs.Lines.{field-text, field-texts, fields-line};
+ghost use Rattle.report.specs.Lines.{field-text, field-texts, fields-line, PositionWithin};
 use paper::Rule;
 
 // A field of an `E` line: `-`, `rN`, `sN`, or a name's nine bits.
@@ -18,6 +18,13 @@ pub enum Field {
     Named(u16),
 }
 
+// Where a fault stands: its step's block, place there and inst.
+pub struct Position {
+    pub block: usize,
+    pub place: usize,
+    pub inst: u16,
+}
+
 // The fields of an `E` line behind its inst.
 pub struct FaultFields {
     pub kind: u32,
@@ -26,8 +33,8 @@ pub struct FaultFields {
     pub actual: Field,
 }
 
-// The name of nine bits.
-pub fn write_word(report: &mut [u8], at: usize, w: u16) -> usize
+// The name in the nine low bits of a word.
+pub fn write_packed_name(report: &mut [u8], at: usize, w: u16) -> usize
     requires { ⌜ at + length (name-text (name-of-word w)) ≤ length (now report) ⌝ }
     ensures { λ r. ⌜ Wrote (now (report .entry)) at (name-text (name-of-word w)) (now (report .exit)) r ⌝ }
 {
@@ -49,7 +56,7 @@ fn write_field(report: &mut [u8], at: usize, field: Field) -> usize
         Field::Nothing => fields::write_byte(report, next, b'-'),
         Field::Register(n) => fields::write_before_number(report, next, b'r', n),
         Field::Slot(n) => fields::write_before_number(report, next, b's', n),
-        Field::Named(w) => write_word(report, next, w),
+        Field::Named(w) => write_packed_name(report, next, w),
     }
 }
 
@@ -69,21 +76,14 @@ fn write_fields(report: &mut [u8], at: usize, fault: FaultFields) -> usize
 }
 
 // An `E` line.
-pub fn write_line(
-    report: &mut [u8],
-    at: usize,
-    block: usize,
-    place: usize,
-    inst: u16,
-    fault: FaultFields,
-) -> usize
-    requires { ⌜ (block < max-blocks) × (place < max-steps) × (at + length (fields-line block place inst fault) ≤ length (now report)) ⌝ }
-    ensures { λ r. ⌜ Wrote (now (report .entry)) at (fields-line block place inst fault) (now (report .exit)) r ⌝ }
+pub fn write_line(report: &mut [u8], at: usize, position: Position, fault: FaultFields) -> usize
+    requires { ⌜ PositionWithin position × (at + length (fields-line position fault) ≤ length (now report)) ⌝ }
+    ensures { λ r. ⌜ Wrote (now (report .entry)) at (fields-line position fault) (now (report .exit)) r ⌝ }
 {
     let a = fields::write_byte(report, at, b'E');
-    let b = fields::write_before_number(report, a, b'\t', block as u32);
-    let c = fields::write_before_number(report, b, b'\t', place as u32);
-    let d = fields::write_before_number(report, c, b'\t', inst as u32);
+    let b = fields::write_before_number(report, a, b'\t', position.block as u32);
+    let c = fields::write_before_number(report, b, b'\t', position.place as u32);
+    let d = fields::write_before_number(report, c, b'\t', position.inst as u32);
     write_fields(report, d, fault)
 }
 
@@ -110,7 +110,7 @@ fn write_rule(report: &mut [u8], at: usize, rule: Rule) -> usize
 
 // The header: the rule, and the count of the lines that follow.
 pub fn write_header(report: &mut [u8], at: usize, rule: Rule, count: usize) -> usize
-    requires { ⌜ (count < 4294967296) × (at + length (header-text rule count) ≤ length (now report)) ⌝ }
+    requires { ⌜ (count ≤ report-size) × (at + length (header-text rule count) ≤ length (now report)) ⌝ }
     ensures { λ r. ⌜ Wrote (now (report .entry)) at (header-text rule count) (now (report .exit)) r ⌝ }
 {
     let a = fields::write_byte(report, at, b'R');

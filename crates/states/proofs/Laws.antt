@@ -3,6 +3,7 @@ use mathlib.Core.Path.{_≡_, refl, ap, _∙_}
 use mathlib.Core.List.{List, [], _∷_, _++_, map, map-append, append-nil, append-assoc}
 use mathlib.Core.Option.{Option, none, some}
 use Prim.Native.Nat.{ℕ, _+_, _/_, _%_, _≤_, _<_}
+use Prim.Native.Char.{code}
 use native.Mathlib.Omega.{arith}
 use borrow.Author.Tests.{eq-eqb, ne-eqb}
 use lib.ListN.{length, getD}
@@ -25,7 +26,7 @@ use Rattle.faults.specs.Blocks.{by-block-more}
 use Rattle.sheet.specs.Loaded.{sheet-of}
 use Rattle.runs.specs.Table.{mark-of}
 use Rattle.states.specs.EntryStates.{mark-text, cell-text, cell-texts, visited-text, letter-D, block-text}
-use Rattle.states.specs.Stated.{HoldsStates, tabbed, row-text, head-text}
+use Rattle.states.specs.Stated.{HoldsStates, tabbed, row-text, head-text, longest-cell}
 
 -- fields behind tabs
 
@@ -43,25 +44,26 @@ behind-tabbed (f ∷ fs) = rw (append-assoc, ← behind-tabbed fs)
 
 -- a name, and its mark or none
 module _ (w : ℕ) {l l₁ : List ℕ} {at j : ℕ} (p : Wrote l at (name-text (name-of-word w)) l₁ j) where
-  pub wrote-marked : {l₂ : List ℕ} {k : ℕ} → w / 512 % 2 ≡ 1 → Wrote l₁ j (42 ∷ []) l₂ k → Wrote l at (cell-text (named (name-of-word w) (marked w))) l₂ k × (k ≤ at + 5)
+  pub wrote-marked : {l₂ : List ℕ} {k : ℕ} → w / 512 % 2 ≡ 1 → Wrote l₁ j (code "*" ∷ []) l₂ k
+      → Wrote l at (cell-text (named (name-of-word w) (marked w))) l₂ k × (k ≤ at + longest-cell)
   unfolding cell-text mark-text marked
   wrote-marked e q = rw (eq-eqb _ _ e) (then p q, omega (arith, p .next, q .next, name-short w))
 
-  pub wrote-unmarked : (w / 512 % 2 ≡ 1 → ⊥) → Wrote l at (cell-text (named (name-of-word w) (marked w))) l₁ j × (j ≤ at + 5)
+  pub wrote-unmarked : (w / 512 % 2 ≡ 1 → ⊥) → Wrote l at (cell-text (named (name-of-word w) (marked w))) l₁ j × (j ≤ at + longest-cell)
   unfolding cell-text mark-text marked
   wrote-unmarked e = rw (ne-eqb _ _ e, append-nil) (p, omega (arith, p .next, name-short w))
 
 -- the kind of a word says what is written of it
 module _ (w : ℕ) {l l₁ l₂ : List ℕ} {at j k : ℕ} (p : Wrote l at (tab ∷ []) l₁ j) where
-  pub wrote-absent : w / 1024 % 4 ≡ 0 → Wrote l₁ j (46 ∷ []) l₂ k → Wrote l at (tab ∷ cell-text (cell-of w)) l₂ k
+  pub wrote-absent : w / 1024 % 4 ≡ 0 → Wrote l₁ j (code "." ∷ []) l₂ k → Wrote l at (tab ∷ cell-text (cell-of w)) l₂ k
   unfolding cell-text cell-of of-kind
   wrote-absent e q = rw e (then p q)
 
-  pub wrote-unknown : w / 1024 % 4 ≡ 1 → Wrote l₁ j (63 ∷ []) l₂ k → Wrote l at (tab ∷ cell-text (cell-of w)) l₂ k
+  pub wrote-unknown : w / 1024 % 4 ≡ 1 → Wrote l₁ j (code "?" ∷ []) l₂ k → Wrote l at (tab ∷ cell-text (cell-of w)) l₂ k
   unfolding cell-text cell-of of-kind
   wrote-unknown e q = rw e (then p q)
 
-  pub wrote-conflicted : w / 1024 % 4 ≡ 2 → Wrote l₁ j (33 ∷ []) l₂ k → Wrote l at (tab ∷ cell-text (cell-of w)) l₂ k
+  pub wrote-conflicted : w / 1024 % 4 ≡ 2 → Wrote l₁ j (code "!" ∷ []) l₂ k → Wrote l at (tab ∷ cell-text (cell-of w)) l₂ k
   unfolding cell-text cell-of of-kind
   wrote-conflicted e q = rw e (then p q)
 
@@ -91,16 +93,16 @@ row-then from i words h p q = rw (row-more from i words h) (then p q)
 
 -- the head
 
-pub old-visited : (o : Option State) → (45 ∷ []) ≡ visited-text Old o
+pub old-visited : (o : Option State) → (code "-" ∷ []) ≡ visited-text Old o
 unfolding visited-text
 old-visited o = refl
 
-pub not-visited : (mark : ℕ) (o : Option State) → mark ≡ 0 → mark ≡ mark-of o → (48 ∷ []) ≡ visited-text House o
+pub not-visited : (mark : ℕ) (o : Option State) → mark ≡ 0 → mark ≡ mark-of o → (code "0" ∷ []) ≡ visited-text House o
 unfolding visited-text mark-of digits digit-from
 not-visited mark none z e = refl
 not-visited mark (some s) z e = absurd (omega arith)
 
-pub is-visited : (mark : ℕ) (o : Option State) → (mark ≡ 0 → ⊥) → mark ≡ mark-of o → (49 ∷ []) ≡ visited-text House o
+pub is-visited : (mark : ℕ) (o : Option State) → (mark ≡ 0 → ⊥) → mark ≡ mark-of o → (code "1" ∷ []) ≡ visited-text House o
 unfolding visited-text mark-of digits digit-from
 is-visited mark none z e = absurd (z e)
 is-visited mark (some s) z e = refl

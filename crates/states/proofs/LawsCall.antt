@@ -99,6 +99,6 @@ written-text e w h fits same-words same-queue = rw e (record {
 
 pub stated : {text : Bytes} {out words queue out′ words₁ queue₁ words′ queue′ : List ℕ} {r : ℕ}
     → Written text out words queue out′ words₁ queue₁ r → words′ ≡ replicate (length words₁) 0 → queue′ ≡ replicate (length queue₁) 0
-    → too-short (lent out words queue) ≡ false → Stated text (lent out words queue) (lent out′ words′ queue′) r
+    → too-short report-size (lent out words queue) ≡ false → Stated report-size text (lent out words queue) (lent out′ words′ queue′) r
 unfolding zeros
 stated p w q e = text-left e (p .length-is) (rw (w, q, p .same-words, p .same-queue, p .out-is))

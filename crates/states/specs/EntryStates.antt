@@ -5,6 +5,7 @@ use mathlib.Core.Bool.{Bool, true, false}
 use mathlib.Core.List.{List, [], _∷_, _++_, map}
 use mathlib.Core.Option.{Option, none, some}
 use Prim.Native.Nat.{ℕ}
+use Prim.Native.Char.{code}
 use Rattle.paper.specs.Text.{Bytes, digits, name-text}
 use Rattle.paper.specs.Sheet.{Sheet}
 use Rattle.paper.specs.Cells.{Cell, absent, unknown, conflicted, named}
@@ -17,14 +18,14 @@ use Rattle.paper.specs.declared.Rule.the-variants.{Old, House}
 
 -- `*` behind a name that is marked
 unfoldable pub mark-text : Bool → Bytes
-mark-text true = 42 ∷ []
+mark-text true = code "*" ∷ []
 mark-text false = []
 
 -- `.` Absent, `?` Unknown, `!` Conflicted, or the name
 unfoldable pub cell-text : Cell → Bytes
-cell-text absent = 46 ∷ []
-cell-text unknown = 63 ∷ []
-cell-text conflicted = 33 ∷ []
+cell-text absent = code "." ∷ []
+cell-text unknown = code "?" ∷ []
+cell-text conflicted = code "!" ∷ []
 cell-text (named n marked) = name-text n ++ mark-text marked
 
 -- a state's cells, row after row
@@ -39,7 +40,7 @@ visited-text House none = digits 0
 visited-text House (some s) = digits 1
 
 abbrev pub letter-D : ℕ
-letter-D = 68
+letter-D = code "D"
 
 -- `D block visited cell ..`
 abbrev pub state-line : ℕ → Bytes → State → Bytes

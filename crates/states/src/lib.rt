@@ -21,6 +21,7 @@ use faults::Missing;
 use layout::BLOCKS_WORD;
 use layout::MARK_BASE;
 use layout::REGS_WORD;
+use layout::REPORT_SIZE;
 use layout::ROW_WORDS;
 use layout::SLOTS_WORD;
 use layout::STATE_BASE;
@@ -39,7 +40,7 @@ fn write_named(out: &mut [u8], at: usize, cell: u16) -> usize
     requires { ⌜ at + longest-cell ≤ length (now out) ⌝ }
     ensures { λ r. ⌜ Wrote (now (out .entry)) at (text.cell-text (paper.named (name-of-word cell) (marked cell))) (now (out .exit)) r × (r ≤ at + longest-cell) ⌝ }
 {
-    let end = report::write_word(out, at, cell);
+    let end = report::write_packed_name(out, at, cell);
     if cell / 512 % 2 == 1 {
         return fields::write_byte(out, end, b'*');
     }
@@ -159,9 +160,9 @@ pub fn entry_states(
     words: &mut [u16],
     queue: &mut [u8],
 ) -> usize
-    ensures { λ r. ⌜ Stated (text.entry-states rule (now (sheet .entry))) (lent (now (out .entry)) (now (words .entry)) (now (queue .entry))) (lent (now (out .exit)) (now (words .exit)) (now (queue .exit))) r × (r ≤ longest-text) ⌝ }
+    ensures { λ r. ⌜ Stated report-size (text.entry-states rule (now (sheet .entry))) (lent (now (out .entry)) (now (words .entry)) (now (queue .entry))) (lent (now (out .exit)) (now (words .exit)) (now (queue .exit))) r × (r ≤ longest-text) ⌝ }
 {
-    if checker::too_short(out, words, queue) {
+    if checker::too_short(REPORT_SIZE, out, words, queue) {
         return 0;
     }
     let length = write_states(rule, sheet, out, words, queue);
@@ -179,7 +180,7 @@ pub fn text_of(
     words: &mut [u16],
     queue: &mut [u8],
 ) -> usize
-    ensures { λ r. ⌜ Stated (part-text part rule (now (sheet .entry))) (lent (now (out .entry)) (now (words .entry)) (now (queue .entry))) (lent (now (out .exit)) (now (words .exit)) (now (queue .exit))) r ⌝ }
+    ensures { λ r. ⌜ Stated report-size (part-text part rule (now (sheet .entry))) (lent (now (out .entry)) (now (words .entry)) (now (queue .entry))) (lent (now (out .exit)) (now (words .exit)) (now (queue .exit))) r ⌝ }
 {
     match part {
         Part::Answer => checker::answer_text(rule, sheet, out, words, queue),

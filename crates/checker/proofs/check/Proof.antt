@@ -6,6 +6,7 @@ use borrow.Author.Needs.{needs}
 use Rattle.checker.proofs.check.Statement.{statement}
 use Rattle.checker.proofs.check.Tie as tie
 
+-- the prover's list of needs
 too-short-requires : tie.Need-too-short-requires
 too-short-requires c κs = search needs
 
@@ -22,7 +23,7 @@ returns : tie.Need-returns
 returns c = turned-short _ _ _ (sym (c .before .too-short .ensures) ∙ c .if1 .taken)
 
 answer-requires : tie.Need-answer-requires
-answer-requires c κs = let e = c .before .before .before in long _ _ _ (sym (e .before .too-short .ensures) ∙ e .if1 .left)
+answer-requires c κs = let e = c .before .before .before in long _ _ _ _ (sym (e .before .too-short .ensures) ∙ e .if1 .left)
 
 clear-words-requires : tie.Need-clear-words-requires
 clear-words-requires c κs = search needs
@@ -41,9 +42,12 @@ same-length-6 c = search needs
 
 returns-2 : tie.Need-returns-2
 returns-2 c =
-    let a = c .before .before .before .before .before .before .before .before .before .before .before .before .before .before in
+    let b = c .before .before in
+    let w = b .before .before .before .before in
+    let k = w .before .before .before .before in
+    let a = k .before .before .before .before in
     let e = a .before .before .before .before in
-    checked (a .answer .ensures) (c .before .before .before .before .before .before .clear-words .ensures) (c .before .before .clear-bytes .ensures) (sym (e .before .too-short .ensures) ∙ e .if1 .left)
+    checked (a .answer .ensures) (w .clear-words .ensures) (b .clear-bytes .ensures) (sym (e .before .too-short .ensures) ∙ e .if1 .left)
 
 pub check-spec : {M : Type 1} → statement M
 check-spec =

@@ -1,10 +1,10 @@
--- `check_block` meets its contract: t is the state behind the steps so far, whose faults are noted, and the steps left get fewer.
--- No allocation is missing, so each step's numbers are below the counts: it can be checked and run, and its line fits 32 bytes.
+-- `check_block` meets its contract: t is the state behind the steps so far, the pass has been over their faults, and the steps left
+-- get fewer. No allocation is missing, so each step's numbers are below the counts: it can be checked and run, and its line is short.
 use mathlib.Core.Path.{_≡_, refl}
 use Prim.Native.Nat.{_+_, _*_, _-_, _≤_}
 use native.Mathlib.Omega.{arith}
 use lib.ListN.{length, getD}
-use Rattle.paper.specs.Limits.{max-regs, max-slots}
+use Rattle.paper.specs.Limits.{max-regs, max-slots, longest-fault-line}
 use Rattle.steps.specs.Laws.{in-range-most}
 use Rattle.sheet.specs.Allocated.{in-range-at, honest-at}
 use Rattle.steps.specs.Actions.{InRange}
@@ -18,7 +18,8 @@ use Rattle.faults.proofs.check_block.Tie as tie
 
 abbrev Inv-loop : tie.InvT-loop
 Inv-loop pass rule words report₀ at block regs slots base first count t₀ next₀ place₀ report t next place =
-    (place ≤ count) × (next ≤ at + 32 * place) × (length report ≡ length report₀) × SoFar pass rule words block place t report₀ at report next
+    (place ≤ count) × (next ≤ at + longest-fault-line * place) × (length report ≡ length report₀)
+    × SoFar pass rule words block place t report₀ at report next
 
 abbrev μ-loop : tie.MeasureT-loop
 μ-loop pass rule words report₀ at block regs slots base first count t₀ next₀ place₀ report t next place =
@@ -40,10 +41,6 @@ start5 c = start4 (c .before)
 abbrev start-of : tie.In-loop Inv-loop μ-loop → tie.Start Inv-loop μ-loop
 start-of c = start5 (c .before .before .before)
 
--- the turn's step
-abbrev action-of : tie.After-update Inv-loop μ-loop → tie.After-action-at Inv-loop μ-loop
-action-of c = c .before .before .before .before .before .before .before
-
 within : (c : tie.Start Inv-loop μ-loop) → BlockWithin (c .args .words .now) (c .args .block)
 within c = block-within (c .pre .0 .loaded) (c .pre .1)
 
@@ -54,14 +51,15 @@ ranged c =
     let s = start-of (c .before) in
     rw (c .action-at .ensures) (in-range-at (s .pre .0 .loaded) _ (s .pre .1) (s .pre .0 .allocated) _ (omega arith))
 
-ranged-32 : (c : tie.After-action-at Inv-loop μ-loop)
+ranged-most : (c : tie.After-action-at Inv-loop μ-loop)
     → InRange max-regs max-slots (start-of (c .before) .args .words .now) (c .action-at .result)
-ranged-32 c =
+ranged-most c =
     let s = start-of (c .before) in
     let words = s .args .words .now in
     let w = within s in
     in-range-most (getD words regs-word 0) (getD words slots-word 0) words (c .action-at .result) (w .regs) (w .slots) (ranged c)
 
+-- the prover's list of needs
 shared-slice-read-regs : tie.Need-shared-slice-read-regs Inv-loop μ-loop
 shared-slice-read-regs c = omega (arith, within (start2 c))
 
@@ -123,16 +121,16 @@ action-at-requires c κs = let w = within (start-of c) in
     (omega arith, omega arith)
 
 check-requires : tie.Need-check-requires Inv-loop μ-loop
-check-requires c κs = ranged-32 c
+check-requires c κs = ranged-most c
 
 inst-of-requires : tie.Need-inst-of-requires Inv-loop μ-loop
 inst-of-requires c κs = search needs
 
-note-requires : tie.Need-note-requires Inv-loop μ-loop
-note-requires c κs = let a = c .before .before .before in
+count-or-write-requires : tie.Need-count-or-write-requires Inv-loop μ-loop
+count-or-write-requires c κs = let a = c .before .before .before in
     let w = within (start-of (a .before)) in
-    let e = error-within _ (a .action-at .result) _ _ (ranged-32 a) (c .before .before .check .ensures _ _ (ranged a)) in
-    (omega arith, omega arith, e, omega arith)
+    let e = error-within _ (a .action-at .result) _ _ (ranged-most a) (c .before .before .check .ensures _ _ (ranged a)) in
+    ((omega arith, omega arith), e, omega arith)
 
 update-requires : tie.Need-update-requires Inv-loop μ-loop
 update-requires c κs = let a = c .before .before .before .before .before .before in
@@ -140,7 +138,9 @@ update-requires c κs = let a = c .before .before .before .before .before .befor
     (w .regs, w .slots, ranged a)
 
 add-place : tie.Need-add-place Inv-loop μ-loop
-add-place c = let a = action-of c in omega (arith, within (start-of (a .before)))
+add-place c = let n = c .before .before .before in
+    let a = n .before .before .before .before in
+    omega (arith, within (start-of (a .before)))
 
 loop-less : tie.Need-loop-less Inv-loop μ-loop
 loop-less c = omega arith
@@ -153,8 +153,9 @@ loop-again c = let n = c .before .before .before in
       omega arith,
       omega arith,
       omega arith,
-      so-far-more _ _ _ (a .action-at .ensures) (n .before .before .before .check .ensures _ _ (ranged a)) (n .before .inst-of .ensures _)
-          (c .update .ensures _ (rw (a .action-at .ensures) (honest-at (s .pre .0 .loaded) _ (s .pre .1) _ (omega arith)))) (l .loop .inv .3) (n .note .ensures .0),
+      so-far-more _ _ _ (a .action-at .ensures) (n .before .before .before .check .ensures _ _ (ranged a)) (n .before .before .inst-of .ensures _)
+          (c .update .ensures _ (rw (a .action-at .ensures) (honest-at (s .pre .0 .loaded) _ (s .pre .1) _ (omega arith))))
+          (l .loop .inv .3) (n .count-or-write .ensures .0),
     )
 
 same-length : tie.Need-same-length Inv-loop μ-loop
@@ -192,7 +193,7 @@ check-block-spec =
     action-at-requires
     check-requires
     inst-of-requires
-    note-requires
+    count-or-write-requires
     update-requires
     add-place
     loop-less

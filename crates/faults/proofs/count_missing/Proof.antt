@@ -16,6 +16,7 @@ Inv-loop words from n count₀ i₀ count i = (i ≤ n) × (count ≤ i) × (cou
 abbrev μ-loop : tie.MeasureT-loop
 μ-loop words from n count₀ i₀ count i = n - i
 
+-- the prover's list of needs
 loop-holds : tie.Need-loop-holds Inv-loop μ-loop
 loop-holds c = (omega arith, omega arith, ap length (sym (missing-none _ _)))
 

@@ -1,15 +1,12 @@
--- `fields_of` meets its contract: one case for each error; a register or slot is below 32, so it fits, and a register is not `-`.
-use mathlib.Core.Path.{refl}
+-- `fields_of` meets its contract: one case for each error; its register or slot is one that a sheet can have, so it fits, and a
+-- register is not `-`.
 use native.Mathlib.Omega.{arith}
-use Rattle.paper.specs.Report.{kind-of, fault-fields}
-use Rattle.steps.specs.Faults.{fault-of}
-use Rattle.report.specs.Lines.{field-text, field-texts}
-use Rattle.faults.specs.Errors.{kind-in, fields-in}
-use Rattle.faults.proofs.LawsFields.{unknown-in-reg, incorrect-in-reg}
+use Rattle.faults.proofs.LawsFields.{nothing-found, unknown-in-reg, incorrect-in-reg, unknown-in-slot, incorrect-in-slot, non-ref-slot, undefined-slot}
 use borrow.Author.Needs.{needs}
 use Rattle.faults.proofs.fields_of.Statement.{statement}
 use Rattle.faults.proofs.fields_of.Tie as tie
 
+-- the prover's list of needs
 enum-told : tie.Need-enum-told
 enum-told c = search needs
 
@@ -71,8 +68,7 @@ fault-fields-requires-7 : tie.Need-fault-fields-requires-7
 fault-fields-requires-7 c κs = search needs
 
 returns : tie.Need-returns
-unfolding fault-of kind-in fields-in field-text field-texts
-returns c = rw (c .fault-fields .ensures, c .before .enum-told .given .1) (record { kind = refl; texts = refl })
+returns c = rw (c .fault-fields .ensures, c .before .enum-told .given .1) nothing-found
 
 returns-2 : tie.Need-returns-2
 returns-2 c = let e = c .before .before in
@@ -83,20 +79,20 @@ returns-3 c = let e = c .before .before in
     rw (c .fault-fields3 .ensures, e .error2 .given .1) (incorrect-in-reg _ (rw (e .error2 .given .1) at (e .before .before .pre)) _ _)
 
 returns-4 : tie.Need-returns-4
-unfolding fault-of kind-in fields-in kind-of fault-fields field-text field-texts
-returns-4 c = rw (c .fault-fields4 .ensures, c .before .before .error3 .given .1) (record { kind = refl; texts = refl })
+returns-4 c = let e = c .before .before in
+    rw (c .fault-fields4 .ensures, e .error3 .given .1) (unknown-in-slot _ (rw (e .error3 .given .1) at (e .before .before .pre)) _)
 
 returns-5 : tie.Need-returns-5
-unfolding fault-of kind-in fields-in kind-of fault-fields field-text field-texts
-returns-5 c = rw (c .fault-fields5 .ensures, c .before .before .error4 .given .1) (record { kind = refl; texts = refl })
+returns-5 c = let e = c .before .before in
+    rw (c .fault-fields5 .ensures, e .error4 .given .1) (incorrect-in-slot _ (rw (e .error4 .given .1) at (e .before .before .pre)) _ _)
 
 returns-6 : tie.Need-returns-6
-unfolding fault-of kind-in fields-in kind-of fault-fields field-text field-texts
-returns-6 c = rw (c .fault-fields6 .ensures, c .before .before .error5 .given .1) (record { kind = refl; texts = refl })
+returns-6 c = let e = c .before .before in
+    rw (c .fault-fields6 .ensures, e .error5 .given .1) (non-ref-slot _ (rw (e .error5 .given .1) at (e .before .before .pre)))
 
 returns-7 : tie.Need-returns-7
-unfolding fault-of kind-in fields-in kind-of fault-fields field-text field-texts
-returns-7 c = rw (c .fault-fields7 .ensures, c .before .before .error6 .given .1) (record { kind = refl; texts = refl })
+returns-7 c = let e = c .before .before in
+    rw (c .fault-fields7 .ensures, e .error6 .given .1) (undefined-slot _ (rw (e .error6 .given .1) at (e .before .before .pre)))
 
 pub fields-of-spec : {M : Type 1} → statement M
 fields-of-spec =

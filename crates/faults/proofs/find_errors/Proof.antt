@@ -1,13 +1,14 @@
--- `find_errors` meets its contract: the faults of the blocks so far are noted, at most 32 bytes a step, and the blocks left get
--- fewer; a sheet has at most 1,024 steps, so there is room for the next block's faults.
+-- `find_errors` meets its contract: the pass has been over the blocks so far, at most a line a step, and the blocks left get fewer;
+-- a sheet has at most 1,024 steps, so there is room for the next block's faults.
 use mathlib.Core.Path.{_≡_, refl}
 use Prim.Native.Nat.{_+_, _*_, _-_, _≤_}
 use native.Mathlib.Omega.{arith}
 use lib.ListN.{length, getD}
+use Rattle.paper.specs.Limits.{longest-fault-line}
 use Rattle.paper.specs.Report.{block-faults, by-block}
 use Rattle.layout.specs.Layout.{blocks-word}
 use Rattle.sheet.specs.Loaded.{sheet-of}
-use Rattle.faults.specs.Passes.{Noted}
+use Rattle.faults.specs.Passes.{AfterPass}
 use Rattle.faults.proofs.LawsFaults.{count-from}
 use Rattle.faults.proofs.LawsBlock.{count-next, count-within, blocks-none, blocks-more, blocks-all}
 use borrow.Author.Needs.{needs}
@@ -16,11 +17,17 @@ use Rattle.faults.proofs.find_errors.Tie as tie
 
 abbrev Inv-loop : tie.InvT-loop
 Inv-loop pass rule words report₀ at blocks next₀ block₀ report next block =
-    (block ≤ blocks) × (next ≤ at + 32 * count-from words 0 block) × (length report ≡ length report₀) × Noted pass (by-block (block-faults rule (sheet-of words)) 0 block) report₀ at report next
+    (block ≤ blocks) × (next ≤ at + longest-fault-line * count-from words 0 block) × (length report ≡ length report₀)
+    × AfterPass pass (by-block (block-faults rule (sheet-of words)) 0 block) report₀ at report next
 
 abbrev μ-loop : tie.MeasureT-loop
 μ-loop pass rule words report₀ at blocks next₀ block₀ report next block = blocks - block
 
+-- what the function was given, from the loop
+abbrev start-of : tie.At-loop Inv-loop μ-loop → tie.Start Inv-loop μ-loop
+start-of c = c .before .before .before .before
+
+-- the prover's list of needs
 shared-slice-read-blocks : tie.Need-shared-slice-read-blocks Inv-loop μ-loop
 shared-slice-read-blocks c = omega (arith, c .before .before .before .pre .0 .loaded .bounds)
 
@@ -37,7 +44,7 @@ check-block-requires c κs = let l = c .before .before in
     (s .pre .0, omega arith, omega (arith, count-next (s .args .words .now) b, count-within (b + 1) (s .pre .0) (omega arith)))
 
 add-block : tie.Need-add-block Inv-loop μ-loop
-add-block c = omega (arith, c .before .before .before .before .before .before .before .before .before .pre .0 .loaded .bounds)
+add-block c = omega (arith, start-of (c .before .before .before .before .before) .pre .0 .loaded .bounds)
 
 loop-less : tie.Need-loop-less Inv-loop μ-loop
 loop-less c = omega arith
@@ -45,8 +52,12 @@ loop-less c = omega arith
 loop-again : tie.Need-loop-again Inv-loop μ-loop
 loop-again c = let k = c .before .before in
     let l = k .before .before .before in
-    let s = l .before .before .before .before in
-    (omega arith, omega (arith, count-next (s .args .words .now) (l .loop .block)), omega arith, blocks-more _ _ _ (l .loop .inv .3) (k .check-block .ensures .0))
+    let s = start-of l in (
+      omega arith,
+      omega (arith, count-next (s .args .words .now) (l .loop .block)),
+      omega arith,
+      blocks-more _ _ _ (l .loop .inv .3) (k .check-block .ensures .0),
+    )
 
 same-length : tie.Need-same-length Inv-loop μ-loop
 same-length c = search needs

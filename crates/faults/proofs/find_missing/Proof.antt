@@ -18,6 +18,11 @@ Inv-loop words count block₀ block =
 abbrev μ-loop : tie.MeasureT-loop
 μ-loop words count block₀ block = count - block
 
+-- what the function was given, from the loop
+abbrev start-of : tie.At-loop Inv-loop μ-loop → tie.Start Inv-loop μ-loop
+start-of c = c .before .before .before
+
+-- the prover's list of needs
 shared-slice-read-count : tie.Need-shared-slice-read-count Inv-loop μ-loop
 shared-slice-read-count c = omega (arith, c .before .before .pre .bounds)
 
@@ -37,13 +42,14 @@ is-found-requires c κs = search needs
 returns : tie.Need-returns Inv-loop μ-loop
 returns c = let f = c .before .before in
     let l = f .before .before in
+    let some = some-lines _ _ _ (f .find-in-block .ensures) (sym (c .before .is-found .ensures) ∙ c .if1 .taken) in
     record {
-      lines = l .loop .inv .1 ∙ block-here _ _ _ (omega arith) refl (some-lines _ _ _ (f .find-in-block .ensures) (sym (c .before .is-found .ensures) ∙ c .if1 .taken)) ∙ f .find-in-block .ensures .lines;
+      lines = l .loop .inv .1 ∙ block-here _ _ _ (omega arith) refl some ∙ f .find-in-block .ensures .lines;
       within = f .find-in-block .ensures .within;
     }
 
 add-block : tie.Need-add-block Inv-loop μ-loop
-add-block c = omega (arith, c .before .before .before .before .before .before .before .pre .bounds)
+add-block c = omega (arith, start-of (c .before .before .before .before) .pre .bounds)
 
 loop-less : tie.Need-loop-less Inv-loop μ-loop
 loop-less c = omega arith
@@ -51,7 +57,8 @@ loop-less c = omega arith
 loop-again : tie.Need-loop-again Inv-loop μ-loop
 loop-again c = let f = c .before .before in
     let l = f .before .before in
-    (omega arith, l .loop .inv .1 ∙ block-later _ _ _ (omega arith) (no-lines-found _ _ _ (f .find-in-block .ensures) (sym (c .before .is-found .ensures) ∙ c .if1 .left)))
+    let none = no-lines-found _ _ _ (f .find-in-block .ensures) (sym (c .before .is-found .ensures) ∙ c .if1 .left) in
+    (omega arith, l .loop .inv .1 ∙ block-later _ _ _ (omega arith) none)
 
 returns-2 : tie.Need-returns-2 Inv-loop μ-loop
 unfolding missing-lines

@@ -4,6 +4,7 @@ use borrow.Author.Needs.{needs}
 use Rattle.faults.proofs.is_found.Statement.{statement}
 use Rattle.faults.proofs.is_found.Tie as tie
 
+-- the prover's list of needs
 enum-told : tie.Need-enum-told
 enum-told c = search needs
 

@@ -1,5 +1,5 @@
 -- `write_errors` meets its contract: no allocation is missing, so the faults are those that the checks find. Counting them leaves
--- the report as it is; a header of 16 bytes and 1,024 lines of 32 fit, and the sheet is accepted where the count is 0.
+-- the report as it is; the header and 1,024 lines fit, and the sheet is accepted where the count is 0.
 use native.Mathlib.Omega.{arith}
 use Rattle.report.specs.Lengths.{header-short}
 use Rattle.faults.proofs.LawsReported.{errors-accepted, errors-faulty, faults-found}
@@ -13,6 +13,7 @@ start-of c = c .before .before .before .before
 abbrev count-of : tie.After-write-header → tie.After-find-errors
 count-of c = c .before .before .before .before
 
+-- the prover's list of needs
 find-errors-requires : tie.Need-find-errors-requires
 find-errors-requires c κs = (c .before .before .before .pre .0, omega arith)
 

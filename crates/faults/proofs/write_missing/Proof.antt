@@ -14,6 +14,7 @@ use Rattle.steps.specs.declared.Action.the-variants.{Spill, Reload, Move, Chang
 use Rattle.steps.specs.Actions.{step-of, RoomFor}
 use Rattle.steps.specs.Faults.{some-in}
 use Rattle.sheet.specs.Loaded.{sheet-of}
+use Rattle.report.specs.Lines.{PositionWithin}
 use Rattle.faults.specs.Missing.{step-lines}
 use Rattle.faults.proofs.LawsBlock.{room-at}
 use Rattle.faults.proofs.LawsMissing.{faults-missing, lines-of-uses, lines-of-defs, some-defs}
@@ -57,6 +58,11 @@ found c =
     let s = start-of (found-at c) in
     rw (sym (c .inst .given .1) ∙ c .before .before .action-at .ensures) (faults-missing _ _ _ _ (s .args .k) (s .pre .1))
 
+position-within : (c : tie.After-inst) → let s = start-of (found-at c) .args in
+    PositionWithin (record { block = s .block; place = s .place; inst = c .inst .given .0 .0 })
+position-within c = let s = start-of (found-at c) in (omega (arith, s .pre .0 .bounds .blocks, s .pre .1 .within), s .pre .1 .within .1)
+
+-- the prover's list of needs
 action-at-requires : tie.Need-action-at-requires
 action-at-requires c κs = let s = c .before .before in
     (omega (arith, s .pre .0 .bounds, s .pre .1 .within), omega (arith, s .pre .0 .bounds))
@@ -75,7 +81,7 @@ write-missing-among-requires : tie.Need-write-missing-among-requires
 write-missing-among-requires c κs = let a = c .before .before .before .before in
     let s = start-of (found-at a) in
     let r = room a in
-    (omega arith, omega arith, omega (arith, s .pre .0 .bounds .blocks, s .pre .1 .within), s .pre .1 .within .1, s .pre .2, sym (c .before .before .missing-among .ensures) ∙ c .before .if1 .taken)
+    (omega arith, omega arith, position-within a, s .pre .2, sym (c .before .before .missing-among .ensures) ∙ c .before .if1 .taken)
 
 same-length : tie.Need-same-length
 same-length c = search needs
@@ -95,8 +101,7 @@ write-missing-among-requires-2 c κs = let a = c .before .before .before .before
     let r = room a in (
       omega arith,
       omega arith,
-      omega (arith, s .pre .0 .bounds .blocks, s .pre .1 .within),
-      s .pre .1 .within .1,
+      position-within a,
       s .pre .2,
       some-defs _ _ _ _ _ (sym (c .before .before .missing-among .ensures) ∙ c .before .if1 .left) (some-missing a),
     )

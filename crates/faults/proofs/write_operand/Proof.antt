@@ -7,15 +7,16 @@ use borrow.Author.Needs.{needs}
 use Rattle.faults.proofs.write_operand.Statement.{statement}
 use Rattle.faults.proofs.write_operand.Tie as tie
 
+-- the prover's list of needs
 returns : tie.Need-returns
-returns c = rw (no-line-missing _ _ _ _ (c .if1 .taken)) (record { list = refl; next = omega arith }, omega arith)
+returns c = rw (no-line-missing _ _ (c .if1 .taken)) (record { list = refl; next = omega arith }, omega arith)
 
 fault-fields-requires : tie.Need-fault-fields-requires
 fault-fields-requires c κs = search needs
 
 write-line-requires : tie.Need-write-line-requires
 write-line-requires c κs = let s = c .before .before .before .before in
-    rw (c .before .fault-fields .ensures) (omega arith, omega arith, omega (arith, missing-short (s .args .block) (s .args .place) (s .args .inst) (s .pre .0) (s .pre .1) (s .args .operand)))
+    rw (c .before .fault-fields .ensures) (s .pre .0, omega (arith, missing-short (s .args .position) (s .args .operand) (s .pre .0)))
 
 same-length : tie.Need-same-length
 same-length c = search needs
@@ -25,7 +26,7 @@ returns-2 c = let w = c .before .before in
     let f = w .before .before in
     let s = f .before .before .before in
     let l = rw (f .fault-fields .ensures) at (w .write-line .ensures) in
-    (rw (line-missing _ _ _ _ (f .before .if1 .left)) l, omega (arith, l, missing-short (s .args .block) (s .args .place) (s .args .inst) (s .pre .0) (s .pre .1) (s .args .operand)))
+    (rw (line-missing _ _ (f .before .if1 .left)) l, omega (arith, l, missing-short (s .args .position) (s .args .operand) (s .pre .0)))
 
 pub write-operand-spec : {M : Type 1} → statement M
 write-operand-spec =

@@ -10,6 +10,7 @@ use Rattle.report.proofs.write_field.Tie as tie
 abbrev tab-of : tie.After-slice-known2 → tie.After-write-byte
 tab-of c = c .before .before
 
+-- the prover's list of needs
 write-byte-requires : tie.Need-write-byte-requires
 write-byte-requires c κs = omega arith
 
@@ -20,7 +21,8 @@ write-byte-requires-2 : tie.Need-write-byte-requires-2
 unfolding field-text
 write-byte-requires-2 c κs =
     let f = c .before in
-    let s = f .before .before .before .before .before .before .before in
+    let k = f .before .before in
+    let s = k .before .before .before .before .before in
     omega (arith, rw (f .enum-told .given .1) at (s .pre))
 
 enum-known-field : tie.Need-enum-known-field
@@ -30,7 +32,8 @@ write-before-number-requires : tie.Need-write-before-number-requires
 unfolding field-text
 write-before-number-requires c κs =
     let f = c .before .before in
-    let s = f .before .before .before .before .before .before .before in
+    let k = f .before .before in
+    let s = k .before .before .before .before .before in
     omega (arith, rw (f .field .given .1) at (s .pre))
 
 enum-known-field-2 : tie.Need-enum-known-field-2
@@ -40,17 +43,19 @@ write-before-number-requires-2 : tie.Need-write-before-number-requires-2
 unfolding field-text slot-text
 write-before-number-requires-2 c κs =
     let f = c .before .before in
-    let s = f .before .before .before .before .before .before .before in
+    let k = f .before .before in
+    let s = k .before .before .before .before .before in
     omega (arith, rw (f .field2 .given .1) at (s .pre))
 
 enum-known-field-3 : tie.Need-enum-known-field-3
 enum-known-field-3 c = search needs
 
-write-word-requires : tie.Need-write-word-requires
+write-packed-name-requires : tie.Need-write-packed-name-requires
 unfolding field-text
-write-word-requires c κs =
+write-packed-name-requires c κs =
     let f = c .before .before in
-    let s = f .before .before .before .before .before .before .before in
+    let k = f .before .before in
+    let s = k .before .before .before .before .before in
     omega (arith, rw (f .field3 .given .1) at (s .pre))
 
 same-length : tie.Need-same-length
@@ -87,7 +92,7 @@ returns-4 : tie.Need-returns-4
 unfolding field-text
 returns-4 c = let w = c .before .before in
     let f = w .before .before .before in
-    rw (f .field3 .given .1) (then (tab-of (f .before .before) .write-byte .ensures) (w .write-word .ensures))
+    rw (f .field3 .given .1) (then (tab-of (f .before .before) .write-byte .ensures) (w .write-packed-name .ensures))
 
 pub write-field-spec : {M : Type 1} → statement M
 write-field-spec =
@@ -101,7 +106,7 @@ write-field-spec =
     enum-known-field-2
     write-before-number-requires-2
     enum-known-field-3
-    write-word-requires
+    write-packed-name-requires
     same-length
     returns
     same-length-2

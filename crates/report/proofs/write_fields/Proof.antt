@@ -24,6 +24,7 @@ start4 c = start3 (c .before .before .before .before)
 abbrev start5 : tie.After-write-byte-arg → tie.Start
 start5 c = start4 (c .before .before .before .before)
 
+-- the prover's list of needs
 write-before-number-requires : tie.Need-write-before-number-requires
 write-before-number-requires c κs = omega (arith, fields-room _ _ _ (start1 c .pre))
 
@@ -49,7 +50,8 @@ returns c = let w5 = c .before .before in
     let w3 = w4 .before .before .before .before in
     let w2 = w3 .before .before .before .before in
     let w1 = w2 .before .before .before .before in
-    then (w1 .write-before-number .ensures) (then (w2 .write-field .ensures) (then (w3 .write-field2 .ensures) (then (w4 .write-field3 .ensures) (w5 .write-byte .ensures))))
+    let last = then (w4 .write-field3 .ensures) (w5 .write-byte .ensures) in
+    then (w1 .write-before-number .ensures) (then (w2 .write-field .ensures) (then (w3 .write-field2 .ensures) last))
 
 pub write-fields-spec : {M : Type 1} → statement M
 write-fields-spec =

@@ -23,6 +23,7 @@ start4 c = start3 (c .before .before .before .before)
 abbrev start5 : tie.After-write-byte-arg3 → tie.Start
 start5 c = start4 (c .before .before .before .before)
 
+-- the prover's list of needs
 write-byte-requires : tie.Need-write-byte-requires
 write-byte-requires c κs = omega (arith, header-room _ _ _ _ (start1 c .pre .1))
 
@@ -51,7 +52,8 @@ returns c = let w5 = c .before .before in
     let w3 = w4 .before .before .before .before in
     let w2 = w3 .before .before .before .before in
     let w1 = w2 .before .before .before .before in
-    then (w1 .write-byte .ensures) (then (w2 .write-byte2 .ensures) (then (w3 .write-rule .ensures) (then (w4 .write-before-number .ensures) (w5 .write-byte3 .ensures))))
+    let last = then (w4 .write-before-number .ensures) (w5 .write-byte3 .ensures) in
+    then (w1 .write-byte .ensures) (then (w2 .write-byte2 .ensures) (then (w3 .write-rule .ensures) last))
 
 pub write-header-spec : {M : Type 1} → statement M
 write-header-spec =

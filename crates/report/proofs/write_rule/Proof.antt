@@ -36,6 +36,7 @@ house4 c = house3 (c .before .before .before .before)
 abbrev house5 : tie.After-write-byte-arg8 → tie.After-enum-told2
 house5 c = house4 (c .before .before .before .before)
 
+-- the prover's list of needs
 enum-told : tie.Need-enum-told
 enum-told c = search needs
 

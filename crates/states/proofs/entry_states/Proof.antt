@@ -8,6 +8,7 @@ use borrow.Author.Needs.{needs}
 use Rattle.states.proofs.entry_states.Statement.{statement}
 use Rattle.states.proofs.entry_states.Tie as tie
 
+-- the prover's list of needs
 too-short-requires : tie.Need-too-short-requires
 too-short-requires c κs = search needs
 
@@ -21,10 +22,10 @@ same-length-3 : tie.Need-same-length-3
 same-length-3 c = search needs
 
 returns : tie.Need-returns
-returns c = (short-outcome _ _ (sym (c .before .too-short .ensures) ∙ c .if1 .taken), omega arith)
+returns c = (short-outcome _ _ _ (sym (c .before .too-short .ensures) ∙ c .if1 .taken), omega arith)
 
 write-states-requires : tie.Need-write-states-requires
-write-states-requires c κs = let e = c .before .before .before in long _ _ _ (sym (e .before .too-short .ensures) ∙ e .if1 .left)
+write-states-requires c κs = let e = c .before .before .before in long _ _ _ _ (sym (e .before .too-short .ensures) ∙ e .if1 .left)
 
 clear-words-requires : tie.Need-clear-words-requires
 clear-words-requires c κs = search needs
@@ -43,9 +44,13 @@ same-length-6 c = search needs
 
 returns-2 : tie.Need-returns-2
 returns-2 c =
-    let w = c .before .before .before .before .before .before .before .before .before .before .before .before .before .before in
+    let b = c .before .before in
+    let v = b .before .before .before .before in
+    let k = v .before .before .before .before in
+    let w = k .before .before .before .before in
     let e = w .before .before .before .before in
-    (stated (w .write-states .ensures) (c .before .before .before .before .before .before .clear-words .ensures) (c .before .before .clear-bytes .ensures) (sym (e .before .too-short .ensures) ∙ e .if1 .left), w .write-states .ensures .most)
+    let long = sym (e .before .too-short .ensures) ∙ e .if1 .left in
+    (stated (w .write-states .ensures) (v .clear-words .ensures) (b .clear-bytes .ensures) long, w .write-states .ensures .most)
 
 pub entry-states-spec : {M : Type 1} → statement M
 entry-states-spec =

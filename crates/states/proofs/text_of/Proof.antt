@@ -4,6 +4,7 @@ use borrow.Author.Needs.{needs}
 use Rattle.states.proofs.text_of.Statement.{statement}
 use Rattle.states.proofs.text_of.Tie as tie
 
+-- the prover's list of needs
 enum-told : tie.Need-enum-told
 enum-told c = search needs
 
@@ -27,7 +28,8 @@ same-length-3 c = search needs
 
 returns : tie.Need-returns
 unfolding part-text
-returns c = rw (c .before .before .before .before .before .before .before .before .before .before .enum-told .given .1) (c .before .before .before .before .before .before .answer-text .ensures)
+returns c = let a = c .before .before .before .before .before .before in
+    rw (a .before .before .before .before .enum-told .given .1) (a .answer-text .ensures)
 
 same-length-4 : tie.Need-same-length-4
 same-length-4 c = search needs
@@ -40,7 +42,8 @@ same-length-6 c = search needs
 
 returns-2 : tie.Need-returns-2
 unfolding part-text
-returns-2 c = rw (c .before .before .before .before .before .before .before .before .before .before .enum-told2 .given .1) (c .before .before .before .before .before .before .entry-states .ensures .0)
+returns-2 c = let s = c .before .before .before .before .before .before in
+    rw (s .before .before .before .before .enum-told2 .given .1) (s .entry-states .ensures .0)
 
 pub text-of-spec : {M : Type 1} → statement M
 text-of-spec =

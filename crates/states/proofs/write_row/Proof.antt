@@ -4,7 +4,7 @@ use Prim.Native.Nat.{_+_, _*_, _-_, _≤_}
 use native.Mathlib.Omega.{arith}
 use lib.ListN.{length}
 use Rattle.lists.specs.Sets.{Wrote}
-use Rattle.states.specs.Stated.{row-text}
+use Rattle.states.specs.Stated.{row-text, longest-cell}
 use Rattle.states.proofs.Laws.{row-none, row-then}
 use borrow.Author.Needs.{needs}
 use Rattle.states.proofs.write_row.Statement.{statement}
@@ -12,11 +12,12 @@ use Rattle.states.proofs.write_row.Tie as tie
 
 abbrev Inv-loop : tie.InvT-loop
 Inv-loop out₀ at words from n next₀ i₀ out next i =
-    (i ≤ n) × (next ≤ at + 6 * i) × (length out ≡ length out₀) × Wrote out₀ at (row-text from i words) out next
+    (i ≤ n) × (next ≤ at + (1 + longest-cell) * i) × (length out ≡ length out₀) × Wrote out₀ at (row-text from i words) out next
 
 abbrev μ-loop : tie.MeasureT-loop
 μ-loop out₀ at words from n next₀ i₀ out next i = n - i
 
+-- the prover's list of needs
 loop-holds : tie.Need-loop-holds Inv-loop μ-loop
 loop-holds c = (omega arith, omega arith, refl, row-none _ _ _ _)
 

@@ -1,12 +1,13 @@
--- `write_word` meets its contract: below 256 the nine bits are a virtual name, else a real one, and the test tells which.
+-- `write_packed_name` meets its contract: below 256 the nine bits are a virtual name, else a real one, and the test tells which.
 use native.Mathlib.Omega.{arith}
 use borrow.Author.Tests.{lt-ltb, le-ltb}
 use Rattle.cells.specs.Packed.{name-of-word}
 use Rattle.fields.specs.Fields.{name-made}
 use borrow.Author.Needs.{needs}
-use Rattle.report.proofs.write_word.Statement.{statement}
-use Rattle.report.proofs.write_word.Tie as tie
+use Rattle.report.proofs.write_packed_name.Statement.{statement}
+use Rattle.report.proofs.write_packed_name.Tie as tie
 
+-- the prover's list of needs
 cast-name : tie.Need-cast-name
 cast-name c = omega arith
 
@@ -32,8 +33,8 @@ returns-2 : tie.Need-returns-2
 unfolding name-of-word name-made
 returns-2 c = rw (le-ltb _ _ (c .before .before .before .before .if1 .left)) (c .before .before .write-name2 .ensures)
 
-pub write-word-spec : {M : Type 1} → statement M
-write-word-spec =
+pub write-packed-name-spec : {M : Type 1} → statement M
+write-packed-name-spec =
     tie.close
     (tie.spec
     cast-name
