@@ -43,8 +43,8 @@ def options(words, flags, valued):
         word = words.pop(0)
         option, equals, value = word.partition('=')
         if word == '--':
-            return given, names + words
-        if word in flags:
+            names, words = names + words, []
+        elif word in flags:
             given[word] = True
         elif option in valued and option not in given and (value or not equals and words and words[0]):
             given[option] = value if equals else words.pop(0)
@@ -52,10 +52,10 @@ def options(words, flags, valued):
             raise Trouble(f'{option} takes one word behind it, and is given once')
         elif word.startswith('-') and word != '-':
             raise Trouble(f'{shown(word)}: there is no such option; a name that begins with a dash is given as ./{shown(word)} or behind --')
-        elif not word:
-            raise Trouble('a name is empty')
         else:
             names.append(word)
+    if '' in names:
+        raise Trouble('a name is empty')
     return given, names
 
 
