@@ -191,7 +191,7 @@ def ready(*names):
             raise Trouble(f'{shown(name)}: there is no such program under crates/')
     key = key_of(toolchain)
     if all(holds(name, key) for name in names):
-        return
+        return shut()
     with locked() as lock:
         key = key_of(toolchain)
         if not all(holds(name, key) for name in names):
@@ -203,6 +203,16 @@ def ready(*names):
                     keep(name, key)
             except OSError as why:
                 raise because(why.filename or PROVED, why) from None
+    shut()
+
+
+def shut():
+    """Takes the permission to be executed from the programs that rt has linked: they are not to be called."""
+    with contextlib.suppress(OSError):
+        for program in os.scandir(os.path.join(TARGET, 'bin')):
+            mode = program.stat(follow_symlinks=False).st_mode
+            if stat.S_ISREG(mode) and mode & 0o111:
+                os.chmod(program.path, mode & 0o666)
 
 
 @contextlib.contextmanager
@@ -262,9 +272,6 @@ def build(names, lock):
             with contextlib.suppress(FileNotFoundError):
                 os.unlink(os.path.join(TARGET, 'stamp', name))
         check(lost, lock)
-    for program in os.scandir(os.path.join(TARGET, 'bin')):
-        if stat.S_ISREG(program.stat(follow_symlinks=False).st_mode):
-            os.chmod(program.path, program.stat().st_mode & 0o666)
 
 
 # what `rt` says of a crate where nothing is wrong
