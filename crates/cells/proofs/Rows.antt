@@ -21,7 +21,7 @@ use Rattle.paper.specs.Text.{Name, real}
 use Rattle.paper.specs.Sheet.{Sheet, listed}
 use Rattle.paper.specs.Cells.{Cell, absent, named}
 use Rattle.paper.specs.Cells as paper
-use Rattle.paper.specs.Steps.{cell-at, store-at, everywhere, placed, safepoint-row, row-of, unfilled, entry-state, unreached-state}
+use Rattle.paper.specs.Steps.{cell-at, store-at, everywhere, placed, safepoint-row, row-of, unfilled, entry-state, unreached-state, counts-of, unfilled-rows, entry-rows}
 use Rattle.paper.specs.Runs.{both, meet-states}
 use Rattle.paper.specs.declared.Rule.{Rule}
 use Rattle.paper.specs.declared.Rule.the-variants.{Old, House}
@@ -358,12 +358,12 @@ cells-same (suc n) (suc m) w h = ap (λ t. cell-of w ∷ t) (cells-same n m w (o
 
 module _ (rule : Rule) (S : Sheet) (slots : S .slots ≤ 32) where
   pub unreached : (w : ℕ) → cell-of w ≡ unfilled rule → S .regs ≤ 32 → state-of (S .regs ∷ S .slots ∷ []) (replicate 2 (replicate 32 w)) ≡ unreached-state rule S
-  unfolding state-of unreached-state
+  unfolding state-of unreached-state unfilled-rows counts-of
   unreached w e regs = rw (cells-same (S .regs) 32 w regs, cells-same (S .slots) 32 w slots, e)
 
   pub entered : (s : List (List ℕ)) (row : List ℕ) (n : ℕ) → length s ≡ 2 → S .regs ≡ n → state-of (S .regs ∷ S .slots ∷ []) s ≡ unreached-state rule S
       → cells-of n row ≡ row-of n (λ i. named (real i) false) → state-of (S .regs ∷ S .slots ∷ []) (set s 0 row) ≡ entry-state rule S
-  unfolding state-of unreached-state entry-state
+  unfolding state-of unreached-state entry-state entry-rows unfilled-rows counts-of
   entered [] row n e en es er = absurd (omega arith)
   entered (x ∷ []) row n e en es er = absurd (omega arith)
   entered (x ∷ y ∷ []) row n e en es er =

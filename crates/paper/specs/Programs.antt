@@ -3,12 +3,12 @@
 use mathlib.Core.Path.{_≡_}
 use mathlib.Core.Bool.{Bool, cond}
 use mathlib.Core.List.{List, [], _∷_, _++_, map}
-use Prim.Native.Nat.{ℕ, suc, _<_}
+use Prim.Native.Nat.{ℕ, zero, suc, _<_}
 use native.Mathlib.Decide.{ℕ-discrete}
 use Rattle.paper.specs.Text.{Name, real, name-same}
 use Rattle.paper.specs.Sheet.{Operand, Step, spill, reload, move, change, operation, safepoint, Sheet, steps-of, listed, reference-typed}
 use Rattle.paper.specs.Cells.{pick}
-use Rattle.paper.specs.Steps.{Location, register, slot, nowhere, Location-discrete, location-of}
+use Rattle.paper.specs.Steps.{Location, at, nowhere, register, slot, Location-discrete, location-of}
 use Rattle.paper.specs.Walks.{HouseWalk, trail}
 
 unfoldable pub location-same : (k l : Location) → Dec (k ≡ l)
@@ -64,8 +64,9 @@ module _ (W : World) where
   original-collects ref place o n = cond (ref n) (W .collect place (o n)) (o n)
 
   unfoldable pub allocated-collects : List ℕ → ℕ → Allocated → Allocated
-  allocated-collects slots place a (register i) = a (register i)
-  allocated-collects slots place a (slot i) = cond (listed slots i) (W .collect place (a (slot i))) (a (slot i))
+  allocated-collects slots place a (at zero i) = a (register i)
+  allocated-collects slots place a (at (suc zero) i) = cond (listed slots i) (W .collect place (a (slot i))) (a (slot i))
+  allocated-collects slots place a (at (suc (suc row)) i) = a (at (suc (suc row)) i)
   allocated-collects slots place a nowhere = a nowhere
 
   -- "`S`, `L`, `M` copy a cell's value in the allocated program and do nothing in the original. `C`: the original copies the

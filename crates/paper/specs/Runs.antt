@@ -9,7 +9,7 @@ use Prim.Native.Nat.{ℕ, suc, zero, _+_, _*_, _<_}
 use native.Mathlib.Decide.{ℕ-discrete}
 use Rattle.paper.specs.Sheet.{Sheet, succs-of, steps-of, reference-typed}
 use Rattle.paper.specs.Cells.{cell-same, pick, meet}
-use Rattle.paper.specs.Steps.{State, entry-state, unreached-state, effects}
+use Rattle.paper.specs.Steps.{State, cell-count, entry-state, unreached-state, effects}
 use Rattle.paper.specs.declared.Rule.{Rule}
 use Rattle.paper.specs.declared.Rule.the-variants.{Old, House}
 
@@ -114,8 +114,8 @@ begin rule S = record { table = update (before rule S) (S .entry) (entry-state r
 
 -- old: "At most 1 + blocks x 4 x (regs + slots) visits." house: "At most blocks x (1 + 3 x (regs + slots)) visits."
 unfoldable pub visit-bound : Rule → Sheet → ℕ
-visit-bound Old S = 1 + S .blocks * (4 * (S .regs + S .slots))
-visit-bound House S = S .blocks * (1 + 3 * (S .regs + S .slots))
+visit-bound Old S = 1 + S .blocks * (4 * cell-count S)
+visit-bound House S = S .blocks * (1 + 3 * cell-count S)
 
 -- the run's queue is empty after so many visits, and after no fewer
 pub record EndsAfter (rule : Rule) (S : Sheet) (visits : ℕ) : Type 0 where

@@ -1,9 +1,9 @@
 -- Document 01, "Values, steps and joins": a state is two rows of cells, registers and slots; the entry state; the checks of
--- both rules; the effects of each. A row has as many cells as `F` counts: "Cells beyond the counts play no part."
+-- both rules; the effects of each. A row has as many cells as `F` counts.
 use mathlib.Core.Bool.{Bool, true, false, cond}
 use mathlib.Core.List.{List, [], _∷_, map}
 use mathlib.Core.Option.{Option, none, some}
-use Prim.Native.Nat.{ℕ, zero, suc}
+use Prim.Native.Nat.{ℕ, zero, suc, _+_}
 use lib.ListN.{getD, set, replicate}
 use Rattle.paper.specs.Text.{Name, real, name-same}
 use Rattle.paper.specs.Sheet.{Operand, Step, spill, reload, move, change, operation, safepoint, Sheet, listed}
@@ -15,12 +15,29 @@ use Rattle.paper.specs.declared.Rule.the-variants.{Old, House}
 abbrev pub State : Type 0
 State = List (List Cell)
 
--- where a cell stands; `nowhere` for an operand with no allocation
+-- how many cells each row has: "Cells beyond the counts play no part."
+unfoldable pub counts-of : Sheet → List ℕ
+counts-of S = S .regs ∷ S .slots ∷ []
+
+unfoldable pub total : List ℕ → ℕ
+total [] = 0
+total (n ∷ counts) = n + total counts
+
+-- all cells of a state
+unfoldable pub cell-count : Sheet → ℕ
+cell-count S = total (counts-of S)
+
+-- where a cell stands, by its row and its place there; `nowhere` for an operand with no allocation
 pub data Location : Type 0 where
-  register : ℕ → Location
-  slot : ℕ → Location
+  at : (row place : ℕ) → Location
   nowhere : Location
   deriving Discrete as Location-discrete
+
+abbrev pub register : ℕ → Location
+register i = at 0 i
+
+abbrev pub slot : ℕ → Location
+slot i = at 1 i
 
 abbrev pub cell-at : State → ℕ → ℕ → Cell
 cell-at s row place = getD (getD s row []) place absent
@@ -29,13 +46,11 @@ abbrev pub store-at : ℕ → ℕ → Cell → State → State
 store-at row place c s = set s row (set (getD s row []) place c)
 
 unfoldable pub get : State → Location → Cell
-get s (register i) = cell-at s 0 i
-get s (slot i) = cell-at s 1 i
+get s (at row place) = cell-at s row place
 get s nowhere = absent
 
 unfoldable pub put : Location → Cell → State → State
-put (register i) c s = store-at 0 i c s
-put (slot i) c s = store-at 1 i c s
+put (at row place) c s = store-at row place c s
 put nowhere c s = s
 
 unfoldable pub location-of : Option ℕ → Location
@@ -52,12 +67,20 @@ unfoldable pub unfilled : Rule → Cell
 unfilled Old = absent
 unfilled House = unknown
 
+unfoldable pub unfilled-rows : Rule → List ℕ → State
+unfilled-rows rule [] = []
+unfilled-rows rule (n ∷ counts) = replicate n (unfilled rule) ∷ unfilled-rows rule counts
+
+unfoldable pub entry-rows : Rule → List ℕ → State
+entry-rows rule [] = []
+entry-rows rule (n ∷ counts) = row-of n (λ i. named (real i) false) ∷ unfilled-rows rule counts
+
 unfoldable pub entry-state : Rule → Sheet → State
-entry-state rule S = row-of (S .regs) (λ i. named (real i) false) ∷ replicate (S .slots) (unfilled rule) ∷ []
+entry-state rule S = entry-rows rule (counts-of S)
 
 -- "Unreached blocks keep an all Absent (house: all Unknown) state"
 unfoldable pub unreached-state : Rule → Sheet → State
-unreached-state rule S = replicate (S .regs) (unfilled rule) ∷ replicate (S .slots) (unfilled rule) ∷ []
+unreached-state rule S = unfilled-rows rule (counts-of S)
 
 -- what a check finds, after `CheckerError`
 pub data Fault : Type 0 where

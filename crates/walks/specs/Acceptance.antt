@@ -12,7 +12,7 @@ use lib.ListN.{getD, replicate}
 use Rattle.paper.specs.Text.{Name, real}
 use Rattle.paper.specs.Sheet.{Step, change, Sheet, steps-of, reference-typed}
 use Rattle.paper.specs.Cells.{Cell, absent, unknown, named}
-use Rattle.paper.specs.Steps.{State, register, slot, nowhere, get, row-of, unfilled, entry-state, unreached-state, effect, effects}
+use Rattle.paper.specs.Steps.{State, counts-of, at, nowhere, register, cell-at, get, row-of, unfilled, unfilled-rows, entry-rows, entry-state, unreached-state, effect, effects}
 use Rattle.paper.specs.Runs.{flow, analysis, entered, checked-from}
 use Rattle.paper.specs.Report.{missing-allocations, faults}
 use Rattle.paper.specs.Walks.{In, start, then, along, HouseWalk, trail, Passes, Alike, Acceptance}
@@ -65,14 +65,20 @@ unknown-row zero i x m e = absent-named e
 unknown-row (suc n) zero x m e = unknown-named e
 unknown-row (suc n) (suc i) x m e = unknown-row n i x m e
 
+unfilled-named : {Q : Type 0} (counts : List ℕ) (row i : ℕ) (x : Name) (m : Bool) → cell-at (unfilled-rows House counts) row i ≡ named x m → Q
+unfolding unfilled-rows unfilled
+unfilled-named [] row i x m e = absent-named e
+unfilled-named (n ∷ counts) zero i x m e = unknown-row n i x m e
+unfilled-named (n ∷ counts) (suc row) i x m e = unfilled-named counts row i x m e
+
 entry-agrees : (S : Sheet) (W : World) (o : Original W) (a : Allocated W) → ((i : ℕ) → i < S .regs → o (real i) ≡ a (register i)) → Agrees W (entry-state House S) o a
-unfolding entry-state get unfilled
-entry-agrees S W o a equal (register i) n m e =
+unfolding entry-state entry-rows counts-of get
+entry-agrees S W o a equal (at zero i) n m e =
     let r = row-named (S .regs) (λ j. named (real j) false) i n m e in
     let f = r .1 in
     let g : real i ≡ n = cc in
     sym (equal i (r .0)) ∙ ap o g
-entry-agrees S W o a equal (slot i) n m e = unknown-row (S .slots) i n m e
+entry-agrees S W o a equal (at (suc row) i) n m e = unfilled-named _ row i n m e
 entry-agrees S W o a equal nowhere n m e = absent-named e
 
 module _ (S : Sheet) (C : Closed S) where

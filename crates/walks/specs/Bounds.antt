@@ -1,7 +1,7 @@
 -- The visit bounds of both rules: the heights of cells under each meet, and with them both runs as instances of the generic bound.
 use mathlib.Core.Path.{_≡_, refl}
 use mathlib.Core.Bool.{Bool, true, false, _||_}
-use mathlib.Core.List.{[], _∷_, map}
+use mathlib.Core.List.{List, [], _∷_, map}
 use mathlib.Core.Option.{some}
 use Prim.Native.Nat.{ℕ, suc, zero, _+_, _*_, _≤_, _<_}
 use native.Mathlib.Nat.{mul-suc, mul-add}
@@ -11,14 +11,14 @@ use lib.ListN.{length, replicate}
 use Rattle.paper.specs.Text.{Name, real, name-same}
 use Rattle.paper.specs.Sheet.{Sheet, succs-of, steps-of, reference-typed}
 use Rattle.paper.specs.Cells.{Cell, absent, unknown, conflicted, named, cell-same, pick, meet-names, old-meet, house-meet, meet, copied, overwritten, house-changed, collected}
-use Rattle.paper.specs.Steps.{State, unfilled, unreached-state, effects}
+use Rattle.paper.specs.Steps.{State, counts-of, total, cell-count, unfilled, unreached-state, effects}
 use Rattle.paper.specs.Runs.{Run, both, meet-states, flow, before, begin, visit-bound}
 use Rattle.paper.specs.Walks.{In}
 use Rattle.paper.specs.declared.Rule.{Rule}
 use Rattle.paper.specs.declared.Rule.the-variants.{Old, House}
 use Rattle.walks.specs.Heights.{Each, sum, Graded, graded-list}
 use Rattle.walks.specs.Meet.{names-meet, meet-keeps}
-use Rattle.walks.specs.Fits.{shape, Row, Fits, fits-lengths, fits-entry, fits-unreached, HouseKeeps, house-fits-all, old-fits-all}
+use Rattle.walks.specs.Fits.{shape-of, shape, Row, Fits, fits-lengths, fits-entry, fits-unreached, HouseKeeps, house-fits-all, old-fits-all}
 use Rattle.walks.specs.Visits.{Ranked, Within, start, within-unvisited, within-visited}
 
 -- how far a cell can still fall: under the house rule Absent never occurs
@@ -128,9 +128,14 @@ unfolding sum
 sum-row zero c = omega arith
 sum-row (suc n) c = rw (sum-row n c) (omega (arith, mul-suc c n))
 
-pub sum-shape : (S : Sheet) (c : ℕ) → sum (sum (λ (u : Unit {0}). c)) (shape S) ≡ c * (S .regs + S .slots)
-unfolding sum shape
-sum-shape S c = rw (sum-row (S .regs) c, sum-row (S .slots) c, mul-add c (S .regs) (S .slots)) (omega arith)
+sum-rows : (counts : List ℕ) (c : ℕ) → sum (sum (λ (u : Unit {0}). c)) (shape-of counts) ≡ c * total counts
+unfolding sum shape-of total
+sum-rows [] c = omega arith
+sum-rows (n ∷ counts) c = rw (sum-row n c, sum-rows counts c, mul-add c n (total counts)) refl
+
+pub sum-shape : (S : Sheet) (c : ℕ) → sum (sum (λ (u : Unit {0}). c)) (shape S) ≡ c * cell-count S
+unfolding shape cell-count
+sum-shape S c = sum-rows (counts-of S) c
 
 present-keeps : (ref : Name → Bool) → HouseKeeps Present ref (λ from to. Unit {0})
 unfolding copied overwritten house-changed collected
@@ -159,6 +164,11 @@ present-keeps ref = record {
     collects (named k true) p = tt
     collects (named k false) p = tt
 
+-- the cells of a state, as document 01 counts them
+pub cells-counted : (S : Sheet) → cell-count S ≡ S .regs + S .slots
+unfolding cell-count counts-of total
+cells-counted S = omega arith
+
 -- a sheet whose entry and successors are blocks: "entry below blocks", "Values are held against the counts in `F`."
 pub record Closed (S : Sheet) : Type 0 where
   pub entry-in : S .entry < S .blocks
@@ -177,7 +187,7 @@ named-occurs : (rule : Rule) (n : Name) (m : Bool) → Occurs rule (named n m)
 named-occurs Old n m = tt
 named-occurs House n m = tt
 
-pub ranked : (rule : Rule) (S : Sheet) → Closed S → Ranked (flow rule S) (S .blocks) (top rule * (S .regs + S .slots))
+pub ranked : (rule : Rule) (S : Sheet) → Closed S → Ranked (flow rule S) (S .blocks) (top rule * cell-count S)
 unfolding flow meet-states
 ranked rule S C = record {
   Fit = Fits (Occurs rule) (shape S);
@@ -194,9 +204,9 @@ ranked rule S C = record {
 pub within-begin : (rule : Rule) (S : Sheet) (C : Closed S) → Within (ranked rule S C) (visit-bound rule S) 0 (begin rule S)
 unfolding begin before flow visit-bound ranked top start
 within-begin Old S C = within-visited (ranked Old S C) (unreached-state Old S) (fits-unreached S Old tt)
-within-begin House S C = rw (one-add (3 * (S .regs + S .slots))) (within-unvisited (ranked House S C))
+within-begin House S C = rw (one-add (3 * cell-count S)) (within-unvisited (ranked House S C))
 
 pub within-lengths : (rule : Rule) (S : Sheet) (C : Closed S) (bound k : ℕ) (r : Run State) → Within (ranked rule S C) bound k r
-    → (b : ℕ) (s : State) → r .table b ≡ some s → map length s ≡ S .regs ∷ S .slots ∷ []
+    → (b : ℕ) (s : State) → r .table b ≡ some s → map length s ≡ counts-of S
 unfolding ranked
 within-lengths rule S C bound k r g b s e = fits-lengths S (g .fit b s e)

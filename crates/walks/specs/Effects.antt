@@ -8,7 +8,7 @@ use lib.ListN.{getD, set}
 use Rattle.paper.specs.Text.{Name}
 use Rattle.paper.specs.Sheet.{Operand, Step, spill, reload, move, change, operation, safepoint, Sheet, listed, steps-of, reference-typed}
 use Rattle.paper.specs.Cells.{Cell, absent, named, meet, copied, overwritten, house-changed, collected}
-use Rattle.paper.specs.Steps.{State, Location, register, slot, nowhere, cell-at, store-at, get, put, location-of, copy, everywhere, safepoint-row, house-define, house-effect, effect, effects}
+use Rattle.paper.specs.Steps.{State, Location, at, nowhere, register, slot, cell-at, store-at, get, put, location-of, copy, everywhere, safepoint-row, house-define, house-effect, effect, effects}
 use Rattle.paper.specs.Runs.{both, meet-states, flow}
 use Rattle.paper.specs.declared.Rule.{Rule}
 use Rattle.paper.specs.declared.Rule.the-variants.{House}
@@ -49,14 +49,12 @@ store-meet r i x y s t =
 
 pub get-meet : (s t : State) (l : Location) → get (meet-states House s t) l ≡ meet House (get s l) (get t l)
 unfolding get
-get-meet s t (register i) = cell-meet s t 0 i
-get-meet s t (slot i) = cell-meet s t 1 i
+get-meet s t (at row place) = cell-meet s t row place
 get-meet s t nowhere = sym (absent-left absent)
 
 put-meet : (l : Location) (x y : Cell) (s t : State) → put l (meet House x y) (meet-states House s t) ≡ meet-states House (put l x s) (put l y t)
 unfolding put
-put-meet (register i) x y s t = store-meet 0 i x y s t
-put-meet (slot i) x y s t = store-meet 1 i x y s t
+put-meet (at row place) x y s t = store-meet row place x y s t
 put-meet nowhere x y s t = refl
 
 everywhere-meet : (f : Cell → Cell) → Spreads (meet House) f → Spreads (meet-states House) (everywhere f)

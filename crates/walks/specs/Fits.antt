@@ -9,7 +9,7 @@ use lib.ListN.{length, getD, set, replicate, length-replicate, List·getD-map}
 use Rattle.paper.specs.Text.{Name, real}
 use Rattle.paper.specs.Sheet.{Operand, Step, spill, reload, move, change, operation, safepoint, Sheet, listed}
 use Rattle.paper.specs.Cells.{Cell, absent, unknown, named, copied, overwritten, house-changed, old-changed, collected}
-use Rattle.paper.specs.Steps.{State, Location, register, slot, nowhere, cell-at, store-at, get, put, location-of, row-of, unfilled, entry-state, unreached-state, copy, everywhere, placed, safepoint-row, old-define, house-define, old-effect, house-effect, effect, effects}
+use Rattle.paper.specs.Steps.{State, counts-of, Location, at, nowhere, register, slot, cell-at, store-at, get, put, location-of, row-of, unfilled, unfilled-rows, entry-rows, entry-state, unreached-state, copy, everywhere, placed, safepoint-row, old-define, house-define, old-effect, house-effect, effect, effects}
 use Rattle.paper.specs.Walks.{In, here, there}
 use Rattle.paper.specs.declared.Rule.{Rule}
 use Rattle.paper.specs.declared.Rule.the-variants.{Old, House}
@@ -19,9 +19,13 @@ use Rattle.walks.specs.Heights.{Each, each-nil, each-cons, each-map, eac
 abbrev pub Shape : Type 0
 Shape = List (List (Unit {0}))
 
+unfoldable pub shape-of : List ℕ → Shape
+shape-of [] = []
+shape-of (n ∷ counts) = replicate n tt ∷ shape-of counts
+
 -- as many cells as the sheet counts
 unfoldable pub shape : Sheet → Shape
-shape S = replicate (S .regs) tt ∷ replicate (S .slots) tt ∷ []
+shape S = shape-of (counts-of S)
 
 abbrev pub Row : (Cell → Type 0) → List (Unit {0}) → List Cell → Type 0
 Row P = Each (λ u. P)
@@ -30,9 +34,14 @@ Row P = Each (λ u. P)
 abbrev pub Fits : (Cell → Type 0) → Shape → State → Type 0
 Fits P = Each (Row P)
 
-pub fits-lengths : {P : Cell → Type 0} (S : Sheet) {s : State} → Fits P (shape S) s → map length s ≡ S .regs ∷ S .slots ∷ []
+shape-lengths : (counts : List ℕ) → map length (shape-of counts) ≡ counts
+unfolding shape-of
+shape-lengths [] = refl
+shape-lengths (n ∷ counts) = cc (length-replicate n (tt {0}), shape-lengths counts)
+
+pub fits-lengths : {P : Cell → Type 0} (S : Sheet) {s : State} → Fits P (shape S) s → map length s ≡ counts-of S
 unfolding shape
-fits-lengths S f = each-lengths f ∙ cc (length-replicate (S .regs) (tt {0}), length-replicate (S .slots) (tt {0}))
+fits-lengths S f = each-lengths f ∙ shape-lengths (counts-of S)
 
 module _ {P : Cell → Type 0} where
   row-all : (n : ℕ) (f : ℕ → Cell) → ((i : ℕ) → P (f i)) → Row P (replicate n tt) (row-of n f)
@@ -44,13 +53,23 @@ module _ {P : Cell → Type 0} where
   row-same zero c p = each-nil
   row-same (suc n) c p = each-cons p (row-same n c p)
 
+  unfilled-fits : (rule : Rule) → P (unfilled rule) → (counts : List ℕ) → Fits P (shape-of counts) (unfilled-rows rule counts)
+  unfolding shape-of unfilled-rows
+  unfilled-fits rule p [] = each-nil
+  unfilled-fits rule p (n ∷ counts) = each-cons (row-same n (unfilled rule) p) (unfilled-fits rule p counts)
+
+  entry-fits : (rule : Rule) → P (unfilled rule) → ((i : ℕ) → P (named (real i) false)) → (counts : List ℕ) → Fits P (shape-of counts) (entry-rows rule counts)
+  unfolding shape-of entry-rows
+  entry-fits rule p q [] = each-nil
+  entry-fits rule p q (n ∷ counts) = each-cons (row-all n (λ i. named (real i) false) q) (unfilled-fits rule p counts)
+
   pub fits-entry : (S : Sheet) (rule : Rule) → P (unfilled rule) → ((i : ℕ) → P (named (real i) false)) → Fits P (shape S) (entry-state rule S)
   unfolding shape entry-state
-  fits-entry S rule p q = each-cons (row-all (S .regs) (λ i. named (real i) false) q) (each-cons (row-same (S .slots) (unfilled rule) p) each-nil)
+  fits-entry S rule p q = entry-fits rule p q (counts-of S)
 
   pub fits-unreached : (S : Sheet) (rule : Rule) → P (unfilled rule) → Fits P (shape S) (unreached-state rule S)
   unfolding shape unreached-state
-  fits-unreached S rule p = each-cons (row-same (S .regs) (unfilled rule) p) (each-cons (row-same (S .slots) (unfilled rule) p) each-nil)
+  fits-unreached S rule p = unfilled-fits rule p (counts-of S)
 
   module _ (sh : Shape) where
     -- a cell of the state has the property, and a place beyond the counts is read as Absent
@@ -67,8 +86,7 @@ module _ {P : Cell → Type 0} where
 
     pub fits-get : (l : Location) (s : State) → Fits P sh s → (get s l ≡ absent) ⊎ P (get s l)
     unfolding get
-    fits-get (register i) s f = fits-cell 0 i s f
-    fits-get (slot i) s f = fits-cell 1 i s f
+    fits-get (at row place) s f = fits-cell row place s f
     fits-get nowhere s f = inl refl
 
     fits-store : (r i : ℕ) (c : Cell) → P c → (s : State) → Fits P sh s → Fits P sh (store-at r i c s)
@@ -76,8 +94,7 @@ module _ {P : Cell → Type 0} where
 
     fits-put : (l : Location) (c : Cell) → P c → (s : State) → Fits P sh s → Fits P sh (put l c s)
     unfolding put
-    fits-put (register i) c p s f = fits-store 0 i c p s f
-    fits-put (slot i) c p s f = fits-store 1 i c p s f
+    fits-put (at row place) c p s f = fits-store row place c p s f
     fits-put nowhere c p s f = f
 
     fits-everywhere : (g : Cell → Cell) → ((c : Cell) → P c → P (g c)) → (s : State) → Fits P sh s → Fits P sh (everywhere g s)

@@ -1,16 +1,17 @@
 -- Where a name comes from: if a cell holds a name after a change of the state, then the cell that it was made from held it, or the
 -- name was just put there.
-use mathlib.Core.Path.{_≡_, refl, sym, _∙_, ap}
+use mathlib.Core.Path.{_≡_, refl, sym, _∙_, ap, ap₂, subst}
 use mathlib.Core.Bool.{Bool, true, false, cond}
 use mathlib.Core.List.{List, [], _∷_, map}
 use Prim.Native.Nat.{ℕ, suc, zero}
+use native.Mathlib.Decide.{ℕ-discrete}
 use native.Mathlib.Omega.{arith}
 use lib.ListN.{getD, set, List·getD-map}
 use lib.Seq.{getD-set-other}
 use Rattle.paper.specs.Text.{Name, name-same}
 use Rattle.paper.specs.Sheet.{safepoint, listed}
 use Rattle.paper.specs.Cells.{Cell, absent, unknown, conflicted, named, pick, copied, overwritten, house-changed, collected}
-use Rattle.paper.specs.Steps.{State, Location, register, slot, nowhere, cell-at, store-at, get, put, everywhere, placed, safepoint-row, house-effect, effect}
+use Rattle.paper.specs.Steps.{State, Location, at, nowhere, slot, cell-at, store-at, get, put, everywhere, placed, safepoint-row, house-effect, effect}
 use Rattle.paper.specs.declared.Rule.the-variants.{House}
 use Rattle.walks.specs.Rows.{getD-placed}
 
@@ -83,18 +84,17 @@ store-row c s r q i j h = ap (λ (row : List Cell). getD row j absent) (getD-set
 
 pub put-named : (l : Location) (c : Cell) (s : State) (n : Name) (m : Bool) → get (put l c s) l ≡ named n m → c ≡ named n m
 unfolding get put
-put-named (register i) c s n m e = store-named c s 0 i n m e
-put-named (slot i) c s n m e = store-named c s 1 i n m e
+put-named (at row place) c s n m e = store-named c s row place n m e
 put-named nowhere c s n m e = absent-named e
 
 pub get-put-other : (l k : Location) (c : Cell) (s : State) → ¬ (k ≡ l) → get (put l c s) k ≡ get s k
 unfolding get put
-get-put-other (register i) (register j) c s h = store-other c s 0 i j (λ e. h (ap register e))
-get-put-other (register i) (slot j) c s h = store-row c s 0 1 i j (omega arith)
-get-put-other (register i) nowhere c s h = refl
-get-put-other (slot i) (register j) c s h = store-row c s 1 0 i j (omega arith)
-get-put-other (slot i) (slot j) c s h = store-other c s 1 i j (λ e. h (ap slot e))
-get-put-other (slot i) nowhere c s h = refl
+get-put-other (at row i) (at other j) c s h = go (ℕ-discrete other row)
+  where
+    go : Dec (other ≡ row) → cell-at (store-at row i c s) other j ≡ cell-at s other j
+    go (yes e) = subst (λ (r : ℕ). cell-at (store-at row i c s) r j ≡ cell-at s r j) (sym e) (store-other c s row i j (λ f. h (ap₂ at e f)))
+    go (no d) = store-row c s row other i j d
+get-put-other (at row i) nowhere c s h = refl
 get-put-other nowhere k c s h = refl
 
 cell-map : (f : Cell → Cell) → f absent ≡ absent → (row : List Cell) (i : ℕ) → getD (map f row) i absent ≡ f (getD row i absent)
@@ -105,11 +105,10 @@ cell-everywhere f e s r i = ap (λ (row : List Cell). getD row i absent) (List·
 
 pub get-everywhere : (f : Cell → Cell) → f absent ≡ absent → (s : State) (l : Location) → get (everywhere f s) l ≡ f (get s l)
 unfolding get everywhere
-get-everywhere f e s (register i) = cell-everywhere f e s 0 i
-get-everywhere f e s (slot i) = cell-everywhere f e s 1 i
+get-everywhere f e s (at row place) = cell-everywhere f e s row place
 get-everywhere f e s nowhere = sym e
 
--- what a safepoint leaves in a register, and in a slot that it lists or does not
+-- what a safepoint leaves of a cell in a row that it lists nothing of, and of a slot that it lists or does not
 module _ (ref : Name → Bool) (inst : ℕ) (slots : List ℕ) (s : State) (i : ℕ) where
   no-row : (r : ℕ) → safepoint-row House slots r [] ≡ []
   unfolding safepoint-row placed
@@ -120,13 +119,13 @@ module _ (ref : Name → Bool) (inst : ℕ) (slots : List ℕ) (s : State) (i : 
   row-collected : (r : ℕ) → getD (placed (safepoint-row House slots) s) r [] ≡ safepoint-row House slots r (getD s r [])
   row-collected r = getD-placed (safepoint-row House slots) [] no-row s r
 
-  pub get-collected-register : get (effect House ref (safepoint inst slots) s) (register i) ≡ collected House (get s (register i))
-  unfolding get effect house-effect safepoint-row collected
-  get-collected-register = ap (λ (row : List Cell). getD row i absent) (row-collected 0) ∙ cell-map (collected House) refl (getD s 0 []) i
+  pub get-unlisted : (r : ℕ) → safepoint-row House slots r (getD s r []) ≡ map (collected House) (getD s r []) → get (effect House ref (safepoint inst slots) s) (at r i) ≡ collected House (get s (at r i))
+  unfolding get effect house-effect collected
+  get-unlisted r e = ap (λ (row : List Cell). getD row i absent) (row-collected r ∙ e) ∙ cell-map (collected House) refl (getD s r []) i
 
-  pub get-collected-slot : get (effect House ref (safepoint inst slots) s) (slot i) ≡ cond (listed slots i) (get s (slot i)) (collected House (get s (slot i)))
+  pub get-listed : get (effect House ref (safepoint inst slots) s) (slot i) ≡ cond (listed slots i) (get s (slot i)) (collected House (get s (slot i)))
   unfolding get effect house-effect safepoint-row collected
-  get-collected-slot =
+  get-listed =
       ap (λ (row : List Cell). getD row i absent) (row-collected 1)
       ∙ getD-placed (λ j c. cond (listed slots j) c (collected House c)) absent (λ j. same (listed slots j)) (getD s 1 []) i
     where

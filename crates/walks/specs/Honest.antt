@@ -11,7 +11,7 @@ use native.Mathlib.Omega.{arith}
 use Rattle.paper.specs.Text.{Name, name-same}
 use Rattle.paper.specs.Sheet.{change, Sheet, steps-of, reference-typed}
 use Rattle.paper.specs.Cells.{Cell, absent, unknown, conflicted, named, cell-same, pick, house-meet, meet, copied, overwritten, house-changed, collected}
-use Rattle.paper.specs.Steps.{State, Location, get, unfilled}
+use Rattle.paper.specs.Steps.{State, Location, cell-count, get, unfilled}
 use Rattle.paper.specs.Runs.{meet-states, flow, before, begin, run}
 use Rattle.paper.specs.Walks.{In, HouseWalk, start, then, along}
 use Rattle.paper.specs.declared.Rule.the-variants.{House}
@@ -114,7 +114,7 @@ module _ (ref : Name → Bool) where
   }
 
 module _ (S : Sheet) (C : Closed S) (T : Typed S) where
-  ranked : Ranked (flow House S) (S .blocks) (2 * (S .regs + S .slots))
+  ranked : Ranked (flow House S) (S .blocks) (2 * cell-count S)
   unfolding flow meet-states unfilled
   ranked = record {
     Fit = Fits (Proper (reference-typed S)) (shape S);
@@ -139,8 +139,8 @@ module _ (S : Sheet) (C : Closed S) (T : Typed S) where
   meets-proper (two {x} {y} p q e) = subst (Fits (Proper (reference-typed S)) (shape S)) e (ranked .fit-meet x y (meets-proper p) (meets-proper q))
 
   -- the run of such a sheet ends within blocks x (1 + 2 x (regs + slots)) visits
-  pub typed-run-ends : (run (flow House S) (S .blocks * (1 + 2 * (S .regs + S .slots))) (begin House S)) .queue ≡ []
+  pub typed-run-ends : (run (flow House S) (S .blocks * (1 + 2 * cell-count S)) (begin House S)) .queue ≡ []
   unfolding ranked begin before flow Visits.start
   typed-run-ends =
-      let bound = S .blocks * (1 + 2 * (S .regs + S .slots)) in
-      within-ends ranked {bound = bound} bound {k = 0} (begin House S) (rw (one-add (2 * (S .regs + S .slots))) (within-unvisited ranked)) (omega arith)
+      let bound = S .blocks * (1 + 2 * cell-count S) in
+      within-ends ranked {bound = bound} bound {k = 0} (begin House S) (rw (one-add (2 * cell-count S)) (within-unvisited ranked)) (omega arith)

@@ -13,6 +13,7 @@ pub mod Meet
 pub mod Effects
 pub mod Fits
 pub mod Bounds
+pub mod Spelled
 pub mod Loop
 pub mod Ended
 pub mod House

@@ -9,7 +9,7 @@ use native.Mathlib.Nat.{add-comm}
 use native.Mathlib.Omega.{arith}
 use lib.ListN.{length}
 use Rattle.paper.specs.Sheet.{Sheet, succs-of, steps-of, reference-typed}
-use Rattle.paper.specs.Steps.{State, effects}
+use Rattle.paper.specs.Steps.{State, counts-of, effects}
 use Rattle.paper.specs.Runs.{Run, flow, begin, spread, step, run, visit-bound, analysis, entered, checked-from}
 use Rattle.paper.specs.Walks.{In}
 use Rattle.paper.specs.declared.Rule.{Rule}
@@ -36,7 +36,7 @@ module _ (rule : Rule) (S : Sheet) (C : Closed S) where
     standing-visited = h .within .visited
 
     -- every state in the table has as many cells as the sheet counts
-    pub standing-lengths : (b : ℕ) (s : State) → r .table b ≡ some s → map length s ≡ S .regs ∷ S .slots ∷ []
+    pub standing-lengths : (b : ℕ) (s : State) → r .table b ≡ some s → map length s ≡ counts-of S
     standing-lengths = within-lengths rule S C (visit-bound rule S) k r (h .within)
 
     -- the visit of b has begun: after the pushes to its first successors
@@ -53,15 +53,15 @@ module _ (rule : Rule) (S : Sheet) (C : Closed S) where
   standing-begin = record { within = within-begin rule S C }
 
   -- the state that a block is checked from has as many cells as the sheet counts
-  pub checked-lengths : (b : ℕ) → map length (checked-from rule S b) ≡ S .regs ∷ S .slots ∷ []
+  pub checked-lengths : (b : ℕ) → map length (checked-from rule S b) ≡ counts-of S
   unfolding checked-from entered analysis
   checked-lengths b = at ((analysis rule S) .table b) refl
     where
-      at : (t : Option State) → (analysis rule S) .table b ≡ t → map length (entered rule S ((analysis rule S) .table b)) ≡ S .regs ∷ S .slots ∷ []
-      at none e = subst (λ (t : Option State). map length (entered rule S t) ≡ S .regs ∷ S .slots ∷ []) (sym e) (fits-lengths {P = Any} S (fits-unreached S rule tt))
+      at : (t : Option State) → (analysis rule S) .table b ≡ t → map length (entered rule S ((analysis rule S) .table b)) ≡ counts-of S
+      at none e = subst (λ (t : Option State). map length (entered rule S t) ≡ counts-of S) (sym e) (fits-lengths {P = Any} S (fits-unreached S rule tt))
       at (some s) e =
           let g = within-run (ranked rule S C) (visit-bound rule S) (begin rule S) (within-begin rule S C) in
-          subst (λ (t : Option State). map length (entered rule S t) ≡ S .regs ∷ S .slots ∷ []) (sym e) (within-lengths rule S C (visit-bound rule S) (g .0) (analysis rule S) (g .1) b s e)
+          subst (λ (t : Option State). map length (entered rule S t) ≡ counts-of S) (sym e) (within-lengths rule S C (visit-bound rule S) (g .0) (analysis rule S) (g .1) b s e)
 
   -- the analysis is done: its queue is empty
   pub analysis-ends : (analysis rule S) .queue ≡ []

@@ -4,17 +4,17 @@ use mathlib.Core.Path.{_≡_, refl, sym, _∙_, ap, subst}
 use mathlib.Core.Bool.{Bool, true, false, cond}
 use mathlib.Core.List.{List, [], _∷_}
 use mathlib.Core.Option.{none}
-use Prim.Native.Nat.{ℕ, suc}
+use Prim.Native.Nat.{ℕ, suc, zero}
 use Rattle.paper.specs.Text.{Name, name-same}
 use Rattle.paper.specs.Sheet.{Operand, Step, spill, reload, move, change, operation, safepoint, listed}
 use Rattle.paper.specs.Cells.{Cell, named, pick, copied, overwritten, house-changed, collected}
-use Rattle.paper.specs.Steps.{State, Location, register, slot, nowhere, get, put, location-of, check, copy, everywhere, house-define, house-effect, effect}
+use Rattle.paper.specs.Steps.{State, Location, at, nowhere, register, slot, get, put, location-of, check, copy, everywhere, safepoint-row, house-define, house-effect, effect}
 use Rattle.paper.specs.Walks.{In, here, there, Passes}
 use Rattle.paper.specs.Programs.{location-same, uses-of, World, Original, Allocated, write-name, write-cell, original-reads, allocated-reads, original-writes, allocated-writes, original-collects, allocated-collects, original-step, allocated-step, original-run, allocated-run}
 use Rattle.paper.specs.declared.Rule.the-variants.{House}
 use Rattle.walks.specs.Choices.{pick-yes, pick-no}
 use Rattle.walks.specs.Checks.{Holds, uses-hold, slots-marked, listed-in}
-use Rattle.walks.specs.Holding.{absent-named, copied-named, overwritten-named, changed-named, collected-named, put-named, get-put-other, get-everywhere, get-collected-register, get-collected-slot}
+use Rattle.walks.specs.Holding.{absent-named, copied-named, overwritten-named, changed-named, collected-named, put-named, get-put-other, get-everywhere, get-unlisted, get-listed}
 use Rattle.walks.specs.Fits.{Shape, Fits, house-fits}
 use Rattle.walks.specs.Honest.{Proper, SameType, proper-keeps, own-mark}
 
@@ -85,8 +85,8 @@ module _ (W : World) where
     -- a cell that the collector leaves alone holds an untyped name, one that it moves a typed one
     collect-agrees : (inst place : ℕ) (slots : List ℕ) (s : State) (o : Original W) (a : Allocated W) → Fits (Proper ref) sh s → check (safepoint inst slots) s ≡ none → Agrees s o a
         → Agrees (effect House ref (safepoint inst slots) s) (original-collects W ref place o) (allocated-collects W slots place a)
-    unfolding original-collects allocated-collects check get
-    collect-agrees inst place slots s o a fits ok h = at
+    unfolding original-collects allocated-collects check get safepoint-row
+    collect-agrees inst place slots s o a fits ok h = agree
       where
         moved : (n : Name) → Bool → W .Value
         moved n b = cond b (W .collect place (o n)) (o n)
@@ -96,10 +96,11 @@ module _ (W : World) where
             let f = collected-named (get s l) n m e in
             h l n m (f .0) ∙ ap (moved n) (sym (f .1) ∙ own-mark ref sh s fits l n m (f .0))
 
-        at : (l : Location) (n : Name) (m : Bool) → get (effect House ref (safepoint inst slots) s) l ≡ named n m → allocated-collects W slots place a l ≡ moved n (ref n)
-        at nowhere n m e = absent-named e
-        at (register i) n m e = left (register i) n m (sym (get-collected-register ref inst slots s i) ∙ e)
-        at (slot i) n m e = go (listed slots i) refl (sym (get-collected-slot ref inst slots s i) ∙ e)
+        agree : (l : Location) (n : Name) (m : Bool) → get (effect House ref (safepoint inst slots) s) l ≡ named n m → allocated-collects W slots place a l ≡ moved n (ref n)
+        agree nowhere n m e = absent-named e
+        agree (at zero i) n m e = left (register i) n m (sym (get-unlisted ref inst slots s i 0 refl) ∙ e)
+        agree (at (suc (suc row)) i) n m e = left (at (suc (suc row)) i) n m (sym (get-unlisted ref inst slots s i (suc (suc row)) refl) ∙ e)
+        agree (at (suc zero) i) n m e = go (listed slots i) refl (sym (get-listed ref inst slots s i) ∙ e)
           where
             go : (b : Bool) → listed slots i ≡ b → cond b (get s (slot i)) (collected House (get s (slot i))) ≡ named n m → cond b (W .collect place (a (slot i))) (a (slot i)) ≡ moved n (ref n)
             go true q f =

@@ -12,7 +12,7 @@ use lib.ListN.{length}
 use Rattle.paper.specs.Text.{Bytes, Name}
 use Rattle.paper.specs.Sheet.{Step, Sheet, succs-of, steps-of, reference-typed}
 use Rattle.paper.specs.Cells.{Cell, meet}
-use Rattle.paper.specs.Steps.{State, unreached-state, effect, effects}
+use Rattle.paper.specs.Steps.{State, counts-of, unreached-state, effect, effects}
 use Rattle.paper.specs.Runs.{Run, meet-states, flow, begin, spread, step, run, visit-bound, EndsAfter, analysis, entered, checked-from}
 use Rattle.paper.specs.Report.{Line, find-errors, faults, report-text}
 use Rattle.paper.specs.Limits.{max-steps}
@@ -23,7 +23,7 @@ use Rattle.paper.specs.Programs.{EqualReads}
 use Rattle.paper.specs.declared.Rule.{Rule}
 use Rattle.paper.specs.declared.Rule.the-variants.{Old, House}
 use Rattle.walks.specs.Order.{Served, in-order}
-use Rattle.walks.specs.Bounds.{Closed}
+use Rattle.walks.specs.Bounds.{Closed, cells-counted}
 use Rattle.walks.specs.Honest.{Typed}
 use Rattle.walks.specs.Loop.{Standing}
 use Rattle.walks.specs.Faults.{Explained}
@@ -88,11 +88,11 @@ old-order-shows = OldRule.old-order-shows
 -- 2. "The visit bounds are of the defined run: its queue is empty after at most that many visits."
 pub house-run-ends : (S : Sheet) → Closed S → (run (flow House S) (S .blocks * (1 + 3 * (S .regs + S .slots))) (begin House S)) .queue ≡ []
 unfolding analysis visit-bound
-house-run-ends = Loop.analysis-ends House
+house-run-ends S C = rw (cells-counted S) at (Loop.analysis-ends House S C)
 
 pub old-run-ends : (S : Sheet) → Closed S → (run (flow Old S) (1 + S .blocks * (4 * (S .regs + S .slots))) (begin Old S)) .queue ≡ []
 unfolding analysis visit-bound
-old-run-ends = Loop.analysis-ends Old
+old-run-ends S C = rw (cells-counted S) at (Loop.analysis-ends Old S C)
 
 -- Each run has one number of visits after which, and not before, its queue is empty, and that number stays within the bound.
 pub run-visits : (rule : Rule) (S : Sheet) → Closed S → (k : ℕ) × (EndsAfter rule S k × (k ≤ visit-bound rule S))
@@ -127,9 +127,11 @@ module _ (rule : Rule) (S : Sheet) (C : Closed S) where
   standing-visited h = Loop.standing-visited rule S C h
 
   pub standing-lengths : {k : ℕ} {r : Run State} → Standing rule S C k r → (b : ℕ) (s : State) → r .table b ≡ some s → map length s ≡ S .regs ∷ S .slots ∷ []
+  unfolding counts-of
   standing-lengths h = Loop.standing-lengths rule S C h
 
   pub checked-lengths : (b : ℕ) → map length (checked-from rule S b) ≡ S .regs ∷ S .slots ∷ []
+  unfolding counts-of
   checked-lengths = Loop.checked-lengths rule S C
 
   -- a run that stops because its queue is empty is the whole analysis
@@ -272,7 +274,7 @@ accepted-exactly bytes = (
 
 -- 7. Further. Where marks are the names' own, as they are in every sheet that is read, 2 does in place of 3.
 pub typed-run-ends : (S : Sheet) → Closed S → Typed S → (run (flow House S) (S .blocks * (1 + 2 * (S .regs + S .slots))) (begin House S)) .queue ≡ []
-typed-run-ends = Honest.typed-run-ends
+typed-run-ends S C T = rw (cells-counted S) at (Honest.typed-run-ends S C T)
 
 -- Every fault that the house rule finds is shown by a walk on which that step's check fails, or, kind 7 alone, by two walks; a fault
 -- of an unreached block is its own. `Explained` and `Shown` stand in Faults.antt.
