@@ -47,7 +47,7 @@ module _ {i : ℕ} {f : ℕ → Cell → Cell} {row₀ row : List ℕ} (r : Reac
         ∙ any-step i f (map cell-of row₀) absent (map cell-of row) (cell-of v) (r .cells) (e ∙ ap (f i) (sym (cell-in row i)));
   }
 
-placed-over : (n : ℕ) (f : ℕ → Cell → Cell) (l : List Cell) → length l ≤ n → over 0 n f l ≡ placed f l
+pub placed-over : {A : Type 0} (n : ℕ) (f : ℕ → A → A) (l : List A) → length l ≤ n → over 0 n f l ≡ placed f l
 unfolding over placed
 placed-over n f [] h = refl
 placed-over zero f (x ∷ l) h = absurd (omega arith)
@@ -101,31 +101,9 @@ module _ (m j : ℕ) (h : j < 32) {A : Type 0} (x y : A) where
   pub bit-set : (m / 2 ^ j % 2 ≡ 0 → ⊥) → x ≡ cond (listed (set-bits m) j) x y
   bit-set d = let e : m / 2 ^ j % 2 ≡ 1 = omega arith in rw (listed-bit m j h, e)
 
-none-listed : (f : Cell → Cell) (l : List Cell) → placed (λ i c. cond (listed (set-bits 0) i) c (f c)) l ≡ map f l
+pub none-listed : (f : Cell → Cell) (l : List Cell) → placed (λ i c. cond (listed (set-bits 0) i) c (f c)) l ≡ map f l
 unfolding listed
 none-listed f l = rw no-bits (placed-all f l)
-
--- a state whose two rows were changed, each by its own function
-two-rows : (n m : ℕ) (f : ℕ → List Cell → List Cell) (s : List (List ℕ)) (a b : List ℕ)
-    → cells-of n a ≡ f 0 (cells-of n (getD s 0 [])) → cells-of m b ≡ f 1 (cells-of m (getD (set s 0 a) 1 []))
-    → state-of (n ∷ m ∷ []) (set (set s 0 a) 1 b) ≡ placed f (state-of (n ∷ m ∷ []) s)
-unfolding state-of placed
-two-rows n m f [] a b ea eb = refl
-two-rows n m f (x ∷ []) a b ea eb = ap (λ p. p ∷ []) ea
-two-rows n m f (x ∷ y ∷ s) a b ea eb = ap₂ (λ p q. p ∷ q ∷ []) ea eb
-
-pub every-row : (n m : ℕ) (f : Cell → Cell) (s : List (List ℕ)) (a b : List ℕ)
-    → cells-of n a ≡ map f (cells-of n (getD s 0 [])) → cells-of m b ≡ map f (cells-of m (getD (set s 0 a) 1 []))
-    → state-of (n ∷ m ∷ []) (set (set s 0 a) 1 b) ≡ everywhere f (state-of (n ∷ m ∷ []) s)
-unfolding everywhere
-every-row n m f s a b ea eb = two-rows n m (λ k. map f) s a b ea eb ∙ placed-all (map f) _
-
-pub safepoint-rows : (rule : Rule) (n m mask : ℕ) (s : List (List ℕ)) (a b : List ℕ)
-    → cells-of n a ≡ placed (λ i c. cond (listed (set-bits 0) i) c (paper.collected rule c)) (cells-of n (getD s 0 []))
-    → cells-of m b ≡ placed (λ i c. cond (listed (set-bits mask) i) c (paper.collected rule c)) (cells-of m (getD (set s 0 a) 1 []))
-    → state-of (n ∷ m ∷ []) (set (set s 0 a) 1 b) ≡ placed (safepoint-row rule (set-bits mask)) (state-of (n ∷ m ∷ []) s)
-unfolding safepoint-row
-safepoint-rows rule n m mask s a b ea eb = two-rows n m (safepoint-row rule (set-bits mask)) s a b (ea ∙ none-listed (paper.collected rule) _) eb
 
 -- one cell copied
 pub copied-cell : (s : List (List ℕ)) (row place other from v : ℕ) → cell-of v ≡ paper.copied (cell-of (getD (getD s other []) from 0))
@@ -135,64 +113,14 @@ copied-cell s row place other from v e counts h =
     state-store counts s row place v
     ∙ ap (λ (c : Cell). store-at row place c (state-of counts s)) (e ∙ ap paper.copied (sym (state-cell counts s other from h)))
 
--- a state in lent words
-stored-two : (n m at : ℕ) (w : List ℕ) → stored-state (n ∷ m ∷ []) at w ≡ map cell-of (region at n w) ∷ map cell-of (region (at + 32) m w) ∷ []
-unfolding stored-state rows-at state-of cells-of region
-stored-two n m at w = refl
-
+-- a row in lent words
 pub filled-front : (at m : ℕ) (l row₀ row : List ℕ) → row ≡ over 0 m (λ k x. getD l (at + k) 0) row₀ → m ≤ length row₀ → at + m ≤ length l
     → (n : ℕ) → n ≤ m → take n row ≡ region at n l
 filled-front at m l row₀ row e hr hl n h =
     ap (take n) e ∙ take-over n m (λ k x. getD l (at + k) 0) row₀ h ∙ filled at n l (take n row₀) (simp length-take (omega arith)) (omega arith)
 
-pub loaded : (n m at : ℕ) (w a b : List ℕ) → take n a ≡ region at n w → take m b ≡ region (at + 32) m w → state-of (n ∷ m ∷ []) (a ∷ b ∷ []) ≡ stored-state (n ∷ m ∷ []) at w
-unfolding state-of cells-of
-loaded n m at w a b ea eb = rw (ea, eb) (sym (stored-two n m at w))
-
--- two rows changed in lent words, one after the other
-module _ (at n m : ℕ) (f g : ℕ → ℕ → ℕ) (l l₁ l₂ : List ℕ) (hn : n ≤ 32) (hm : m ≤ 32) (room : at + 64 ≤ length l)
-    (e₁ : l₁ ≡ over at n f l) (e₂ : l₂ ≡ over (at + 32) m g l₁) where
-  kept₁ : Kept at n l l₁
-  kept₁ = rw e₁ (kept-over at n f l)
-
-  kept₂ : Kept (at + 32) m l₁ l₂
-  kept₂ = rw e₂ (kept-over (at + 32) m g l₁)
-
-  kept-rows : Kept at 64 l l₂
-  kept-rows = kept-then at 64 kept₁ kept₂ (omega arith) (omega arith) (omega arith) (omega arith)
-
-  first-row : region at n l₂ ≡ over 0 n f (region at n l)
-  first-row =
-      let k : length l₁ ≡ length l = kept₁ .same-length in
-      let below : region at n (over (at + 32) m g l₁) ≡ region at n l₁ = region-below (at + 32) m g l₁ at n (omega arith) (omega arith) in
-      rw (e₂, below, e₁) (region-over at n f l)
-
-  second-region : region (at + 32) m l₁ ≡ region (at + 32) m l
-  second-region = rw e₁ (region-above at n f l (at + 32) m (omega arith) (omega arith))
-
-  second-row : region (at + 32) m l₂ ≡ over 0 m g (region (at + 32) m l)
-  second-row = rw (e₂, region-over (at + 32) m g l₁, second-region)
-
--- a state written
-pub stored : (at n m : ℕ) (l l₁ l₂ : List ℕ) (s : List (List ℕ)) → n ≤ 32 → m ≤ 32 → at + 64 ≤ length l
-    → length s ≡ 2 → length (getD s 0 []) ≡ 32 → length (getD s 1 []) ≡ 32
-    → l₁ ≡ over at n (λ k w. getD (getD s 0 []) k 0) l → l₂ ≡ over (at + 32) m (λ k w. getD (getD s 1 []) k 0) l₁
-    → Stored (n ∷ m ∷ []) at s l l₂
-unfolding state-of cells-of
-stored at n m l l₁ l₂ (x ∷ y ∷ []) hn hm room es ex ey e₁ e₂ = record {
-  meaning =
-      stored-two n m at l₂
-      ∙ ap₂ (λ p q. map cell-of p ∷ map cell-of q ∷ [])
-      (first-row at n m _ _ l l₁ l₂ hn hm room e₁ e₂ ∙ copied-over n x _ 0 (length-region at n l (omega arith)) (omega arith))
-      (second-row at n m _ _ l l₁ l₂ hn hm room e₁ e₂ ∙ copied-over m y _ 0 (length-region (at + 32) m l (omega arith)) (omega arith));
-  kept = kept-rows at n m _ _ l l₁ l₂ hn hm room e₁ e₂;
-}
-stored at n m l l₁ l₂ [] hn hm room es ex ey e₁ e₂ = absurd (omega arith)
-stored at n m l l₁ l₂ (x ∷ []) hn hm room es ex ey e₁ e₂ = absurd (omega arith)
-stored at n m l l₁ l₂ (x ∷ y ∷ z ∷ s) hn hm room es ex ey e₁ e₂ = absurd (omega arith)
-
 -- a row met into words, cell by cell
-met-over : (rule : Rule) (n : ℕ) (row l : List ℕ) → length l ≡ n → n ≤ length row → map cell-of (over 0 n (meet-at rule row) l) ≡ both (paper.meet rule) (map cell-of l) (cells-of n row)
+pub met-over : (rule : Rule) (n : ℕ) (row l : List ℕ) → length l ≡ n → n ≤ length row → map cell-of (over 0 n (meet-at rule row) l) ≡ both (paper.meet rule) (map cell-of l) (cells-of n row)
 unfolding over both cells-of
 met-over rule zero row [] e h = refl
 met-over rule zero row (x ∷ l) e h = absurd (omega arith)
@@ -248,7 +176,7 @@ unfolding changes
 row-still at n f l h s = let p = pass at f l 0 n (omega arith) h λ k _ q. s k q in (sym (p .0 ∙ over-none at f l), sym (p .1))
 
 -- `changes` is exact: where it is false the list stays, and where the words stay it is false
-unchanged : (at n : ℕ) (f : ℕ → ℕ → ℕ) (l : List ℕ) → at + n ≤ length l → changes at n f l ≡ false → over at n f l ≡ l
+pub unchanged : (at n : ℕ) (f : ℕ → ℕ → ℕ) (l : List ℕ) → at + n ≤ length l → changes at n f l ≡ false → over at n f l ≡ l
 unfolding changes
 unchanged at zero f l h e = over-none at f l
 unchanged at (suc n) f l h e =
@@ -271,7 +199,7 @@ same-word rule a b e = go (eqb (meet-word rule a b) a) refl
     go true h = eqb-true _ _ h
     go false h = absurd (met-moves rule a b (eqb-false _ _ h) e)
 
-same-cells : (rule : Rule) (row : List ℕ) (at n : ℕ) (l : List ℕ) → at + n ≤ length l
+pub same-cells : (rule : Rule) (row : List ℕ) (at n : ℕ) (l : List ℕ) → at + n ≤ length l
     → map cell-of (region at n (over at n (meet-at rule row) l)) ≡ map cell-of (region at n l) → changes at n (meet-at rule row) l ≡ false
 same-cells rule row at n l h e =
     still at n (meet-at rule row) l λ k q.
@@ -284,48 +212,6 @@ same-cells rule row at n l h e =
     ∙ ap (λ (t : List Cell). getD t k absent) e
     ∙ cell-in (region at n l) k
     ∙ ap cell-of old)
-
--- a state met into the one that stands in lent words
-pub met-with : (rule : Rule) (at n m : ℕ) (l l₁ l₂ : List ℕ) (s : List (List ℕ)) (a b : Bool) → n ≤ 32 → m ≤ 32 → at + 64 ≤ length l
-    → length s ≡ 2 → length (getD s 0 []) ≡ 32 → length (getD s 1 []) ≡ 32
-    → (l₁ ≡ over at n (meet-at rule (getD s 0 [])) l) × (a ≡ changes at n (meet-at rule (getD s 0 [])) l)
-    → (l₂ ≡ over (at + 32) m (meet-at rule (getD s 1 [])) l₁) × (b ≡ changes (at + 32) m (meet-at rule (getD s 1 [])) l₁)
-    → MetWith rule (n ∷ m ∷ []) at s l l₂ (a || b)
-unfolding state-of meet-states both
-met-with rule at n m l l₁ l₂ (x ∷ y ∷ []) a b hn hm room es ex ey e₁ e₂ =
-    let f : ℕ → ℕ → ℕ = meet-at rule x in
-    let g : ℕ → ℕ → ℕ = meet-at rule y in
-    let k₁ : length l₁ ≡ length l = kept₁ at n m f g l l₁ l₂ hn hm room (e₁ .0) (e₂ .0) .same-length in
-    let r₁ : region at n l₂ ≡ over 0 n f (region at n l) = first-row at n m f g l l₁ l₂ hn hm room (e₁ .0) (e₂ .0) in
-    let r₂ : region (at + 32) m l₂ ≡ over 0 m g (region (at + 32) m l) = second-row at n m f g l l₁ l₂ hn hm room (e₁ .0) (e₂ .0) in
-    let same : region (at + 32) m l₁ ≡ region (at + 32) m l = second-region at n m f g l l₁ l₂ hn hm room (e₁ .0) (e₂ .0) in
-    let meaning : stored-state (n ∷ m ∷ []) at l₂ ≡ meet-states rule (stored-state (n ∷ m ∷ []) at l) (cells-of n x ∷ cells-of m y ∷ []) =
-    rw (stored-two n m at l₂, stored-two n m at l)
-    (ap₂ (λ p q. p ∷ q ∷ [])
-    (ap (map cell-of) r₁ ∙ met-over rule n x (region at n l) (length-region at n l (omega arith)) (omega arith))
-    (ap (map cell-of) r₂ ∙ met-over rule m y (region (at + 32) m l) (length-region (at + 32) m l (omega arith)) (omega arith))) in
-    record {
-      meaning = meaning;
-      kept = kept-rows at n m f g l l₁ l₂ hn hm room (e₁ .0) (e₂ .0);
-      still = λ e.
-          let s₁ : l₁ ≡ l = e₁ .0 ∙ unchanged at n f l (omega arith) (sym (e₁ .1) ∙ or-left a b e) in
-          e₂ .0 ∙ unchanged (at + 32) m g l₁ (omega arith) (sym (e₂ .1) ∙ or-right a b e) ∙ s₁;
-      moved = λ t e.
-          let all : map cell-of (region at n l₂) ∷ map cell-of (region (at + 32) m l₂) ∷ [] ≡ map cell-of (region at n l) ∷ map cell-of (region (at + 32) m l) ∷ [] =
-          sym (stored-two n m at l₂) ∙ meaning ∙ e ∙ stored-two n m at l in
-          let c₁ : map cell-of (region at n l₂) ≡ map cell-of (region at n l) = cc in
-          let c₂ : map cell-of (region (at + 32) m l₂) ≡ map cell-of (region (at + 32) m l) = cc in
-          let fa : a ≡ false = e₁ .1 ∙ same-cells rule x at n l (omega arith) (ap (map cell-of) (region-over at n f l ∙ sym r₁) ∙ c₁) in
-          let fb : b ≡ false =
-          e₂ .1 ∙ same-cells rule y (at + 32) m l₁ (omega arith)
-          (ap (map cell-of) (region-over (at + 32) m g l₁ ∙ ap (over 0 m g) same ∙ sym r₂) ∙ c₂ ∙ ap (map cell-of) (sym same)) in
-          let none : a || b ≡ false = rw (fa, fb) in
-          let z : _≡_ {A = ℕ} 0 1 = cc in
-          omega arith;
-    }
-met-with rule at n m l l₁ l₂ [] a b hn hm room es ex ey e₁ e₂ = absurd (omega arith)
-met-with rule at n m l l₁ l₂ (x ∷ []) a b hn hm room es ex ey e₁ e₂ = absurd (omega arith)
-met-with rule at n m l l₁ l₂ (x ∷ y ∷ z ∷ s) a b hn hm room es ex ey e₁ e₂ = absurd (omega arith)
 
 -- the states at the start
 own-name : (i : ℕ) → i < 32 → name-of-word (3328 + i) ≡ real i
@@ -350,27 +236,11 @@ row-done {n} {f} {row₀} {row} r h =
     let len : length (map cell-of (take n row₀)) ≡ n = simp (length-map, length-take) (omega arith) in
     cells-done r n (omega arith) ∙ placed-row f (map cell-of (take n row₀)) ∙ ap (λ (k : ℕ). row-of k f) len
 
-cells-same : (n m w : ℕ) → n ≤ m → cells-of n (replicate m w) ≡ replicate n (cell-of w)
+pub cells-same : (n m w : ℕ) → n ≤ m → cells-of n (replicate m w) ≡ replicate n (cell-of w)
 unfolding cells-of
 cells-same zero m w h = refl
 cells-same (suc n) zero w h = absurd (omega arith)
 cells-same (suc n) (suc m) w h = ap (λ t. cell-of w ∷ t) (cells-same n m w (omega arith))
-
-module _ (rule : Rule) (S : Sheet) (slots : S .slots ≤ 32) where
-  pub unreached : (w : ℕ) → cell-of w ≡ unfilled rule → S .regs ≤ 32 → state-of (S .regs ∷ S .slots ∷ []) (replicate 2 (replicate 32 w)) ≡ unreached-state rule S
-  unfolding state-of unreached-state unfilled-rows counts-of
-  unreached w e regs = rw (cells-same (S .regs) 32 w regs, cells-same (S .slots) 32 w slots, e)
-
-  pub entered : (s : List (List ℕ)) (row : List ℕ) (n : ℕ) → length s ≡ 2 → S .regs ≡ n → state-of (S .regs ∷ S .slots ∷ []) s ≡ unreached-state rule S
-      → cells-of n row ≡ row-of n (λ i. named (real i) false) → state-of (S .regs ∷ S .slots ∷ []) (set s 0 row) ≡ entry-state rule S
-  unfolding state-of unreached-state entry-state entry-rows unfilled-rows counts-of
-  entered [] row n e en es er = absurd (omega arith)
-  entered (x ∷ []) row n e en es er = absurd (omega arith)
-  entered (x ∷ y ∷ []) row n e en es er =
-      let own : cells-of (S .regs) row ≡ row-of (S .regs) (λ i. named (real i) false) = rw en er in
-      let rest : cells-of (S .slots) y ≡ replicate (S .slots) (unfilled rule) = cc in
-      ap₂ (λ a b. a ∷ b ∷ []) own rest
-  entered (x ∷ y ∷ z ∷ s) row n e en es er = absurd (omega arith)
 
 pub old-unfilled : cell-of 0 ≡ unfilled Old
 unfolding cell-of of-kind unfilled

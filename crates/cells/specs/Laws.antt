@@ -1,19 +1,20 @@
 -- What packed words mean, for those who pack and unpack them.
-use mathlib.Core.Path.{_≡_, refl, ap, _∙_}
+use mathlib.Core.Path.{_≡_, refl, ap, ap₂, _∙_}
 use mathlib.Core.Bool.{Bool, true, false, cond}
 use mathlib.Core.List.{List, [], _∷_, map}
-use Prim.Native.Nat.{ℕ, zero, suc, _-_, _/_, _%_, _<_}
+use Prim.Native.Nat.{ℕ, zero, suc, _+_, _-_, _/_, _%_, _≤_, _<_}
 use native.Mathlib.Omega.{arith}
 use borrow.Author.Tests.{ltb-false}
 use lib.Dec.{ltb}
-use lib.ListN.{getD, set, take, List·getD-map}
+use lib.ListN.{length, getD, set, take, List·getD-map}
 use lib.Seq.{take-nil, getD-take}
 use Rattle.lists.specs.Maps.{map-set, take-set}
+use Rattle.lists.specs.Region.{region, same-region}
 use Rattle.paper.specs.Text.{real, virtual, name-same}
 use Rattle.paper.specs.Cells.{Cell, absent, unknown, conflicted, named, pick}
-use Rattle.paper.specs.Steps.{State, cell-at, store-at}
+use Rattle.paper.specs.Steps.{State, total, cell-at, store-at}
 use Rattle.cells.specs.Packed.{name-of-word, marked, of-kind, cell-of}
-use Rattle.cells.specs.States.{cells-of, state-of}
+use Rattle.cells.specs.States.{cells-of, state-of, rows-at, Narrow}
 
 pub pick-yes {ℓ} : {P : Type 0} {B : Type ℓ} (d : Dec P) (x y : B) → P → pick d x y ≡ x
 pick-yes (yes p) x y h = refl
@@ -73,7 +74,7 @@ pub cell-in : (l : List ℕ) (i : ℕ) → getD (map cell-of l) i absent ≡ cel
 unfolding cell-of of-kind
 cell-in l i = List·getD-map cell-of l i 0
 
-state-row : (counts : List ℕ) (s : List (List ℕ)) (row : ℕ) → getD (state-of counts s) row [] ≡ cells-of (getD counts row 0) (getD s row [])
+pub state-row : (counts : List ℕ) (s : List (List ℕ)) (row : ℕ) → getD (state-of counts s) row [] ≡ cells-of (getD counts row 0) (getD s row [])
 unfolding state-of cells-of
 state-row [] s row = refl
 state-row (n ∷ counts) [] zero = rw take-nil
@@ -94,3 +95,13 @@ state-store [] s row i v = refl
 state-store (n ∷ counts) [] row i v = refl
 state-store (n ∷ counts) (x ∷ s) zero i v = ap (λ (r : List Cell). r ∷ state-of counts s) (ap (map cell-of) (take-set n x i v) ∙ map-set cell-of (take n x) i v)
 state-store (n ∷ counts) (x ∷ s) (suc row) i v = ap (λ (t : State). map cell-of (take n x) ∷ t) (state-store counts s row i v)
+
+-- a state whose words stay
+pub stored-stays : (widths counts : List ℕ) (at : ℕ) (words words′ : List ℕ) → length words′ ≡ length words → Narrow widths counts → at + total widths ≤ length words
+    → ((i : ℕ) → at ≤ i → i < at + total widths → getD words′ i 0 ≡ getD words i 0) → state-of counts (rows-at widths at words′) ≡ state-of counts (rows-at widths at words)
+unfolding state-of rows-at cells-of region total
+stored-stays [] [] at words words′ e narrow fits same = refl
+stored-stays (width ∷ widths) (n ∷ counts) at words words′ e narrow fits same =
+    ap₂ _∷_
+    (ap (map cell-of) (same-region at n words words′ (omega arith) e (λ k h. same (at + k) (omega arith) (omega arith))))
+    (stored-stays widths counts (at + width) words words′ e (narrow .1) (omega arith) (λ i h l. same i (omega arith) (omega arith)))

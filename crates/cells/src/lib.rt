@@ -2,7 +2,7 @@
 // (virtual v is v, real r is 256 + r), its mark at 512, and its kind at 1024 (absent 0, unknown 1, conflicted 2, named 3).
 ghost use mathlib.Core.Path.{_≡_};
 ghost use mathlib.Core.Bool.{true, false, cond};
-ghost use mathlib.Core.List.{List, [], _∷_, map};
+ghost use mathlib.Core.List.{List, map};
 ghost use Prim.Native.Nat.{ℕ, _+_, _-_, _^_, _≤_, _<_};
 ghost use lib.Count.{trailingZeros};
 ghost use lib.ListN.{length, getD, take};
@@ -10,18 +10,24 @@ ghost use Rattle.lists.specs.Over.{over};
 ghost use Rattle.lists.specs.Region.{region};
 ghost use Rattle.lists.specs.Bits.{set-bits};
 ghost use Rattle.paper.specs.Text.{real};
-ghost use Rattle.paper.specs.Sheet.{Sheet, listed};
+ghost use Rattle.paper.specs.Sheet.{listed};
 ghost use Rattle.paper.specs.Cells as paper;
-ghost use Rattle.paper.specs.Steps.{cell-at, store-at, everywhere, placed, safepoint-row, row-of, entry-state, unreached-state};
-ghost use Rattle.paper.specs.Limits.{max-regs, max-slots};
+ghost use Rattle.paper.specs.Steps.{cell-at, store-at, everywhere, placed, safepoint-row, row-of, entry-rows, unfilled-rows};
+ghost use Rattle.paper.specs.Limits.{max-regs};
 ghost use Rattle.layout.specs.Layout.{row-words, state-words};
 ghost use Rattle.cells.specs.Packed.{name-of-word, marked, cell-of};
 ghost use Rattle.cells.specs.Meeting.{rule-index, meet-table, meet-word};
-ghost use Rattle.cells.specs.States.{Stays, cells-of, state-of, stored-state, changes, meet-at, MetWith, Stored};
+ghost use Rattle.cells.specs.States.{Stays, cells-of, state-of, stored-state, changes, meet-at, MetWith, Stored, RowsFit, row-counts};
 use layout::ROW_WORDS;
 use paper::Rule;
 
 pub type State = [[u16; ROW_WORDS]; 2];
+
+// How many cells each row of a state has.
+pub struct RowCounts {
+    pub regs: usize,
+    pub slots: usize,
+}
 
 // Which side wins the meet, by rule, left kind and right kind: 0 the left, 1 the right, 2 both are names.
 const MEET: [[[u8; 4]; 4]; 2] = [
@@ -101,7 +107,7 @@ fn overwrite_row(row: &mut [u16; ROW_WORDS], name: u16)
 
 // The state after the name was written elsewhere: no cell holds it any more.
 pub fn overwrite(s: &mut State, name: u16)
-    ensures { λ r. ⌜ ((regs slots : ℕ) → regs ≤ max-regs → slots ≤ max-slots → state-of (regs ∷ slots ∷ []) (now (s .exit)) ≡ everywhere (paper.overwritten (name-of-word name)) (state-of (regs ∷ slots ∷ []) (now (s .entry)))) ⌝ }
+    ensures { λ r. ⌜ ((counts : List ℕ) → RowsFit counts → state-of counts (now (s .exit)) ≡ everywhere (paper.overwritten (name-of-word name)) (state-of counts (now (s .entry)))) ⌝ }
 {
     overwrite_row(&mut s[0], name);
     overwrite_row(&mut s[1], name);
@@ -180,7 +186,7 @@ fn collect_row(rule: Rule, row: &mut [u16; ROW_WORDS], kept: u32)
 
 // The state behind a safepoint that lists the slots of a mask.
 pub fn update_stackmap(rule: Rule, s: &mut State, mask: u32)
-    ensures { λ r. ⌜ ((regs slots : ℕ) → regs ≤ max-regs → slots ≤ max-slots → state-of (regs ∷ slots ∷ []) (now (s .exit)) ≡ placed (safepoint-row rule (set-bits mask)) (state-of (regs ∷ slots ∷ []) (now (s .entry)))) ⌝ }
+    ensures { λ r. ⌜ ((counts : List ℕ) → RowsFit counts → state-of counts (now (s .exit)) ≡ placed (safepoint-row rule (set-bits mask)) (state-of counts (now (s .entry)))) ⌝ }
 {
     collect_row(rule, &mut s[0], 0);
     collect_row(rule, &mut s[1], mask);
@@ -307,14 +313,13 @@ pub fn meet_with(
     words: &mut [u16],
     at: usize,
     s: State,
-    regs: usize,
-    slots: usize,
+    counts: RowCounts,
 ) -> bool
-    requires { ⌜ (now table ≡ meet-table) × (at + state-words ≤ length (now words)) × (regs ≤ max-regs) × (slots ≤ max-slots) ⌝ }
-    ensures { λ r. ⌜ MetWith rule (regs ∷ slots ∷ []) at s (now (words .entry)) (now (words .exit)) r ⌝ }
+    requires { ⌜ (now table ≡ meet-table) × (at + state-words ≤ length (now words)) × RowsFit (row-counts counts) ⌝ }
+    ensures { λ r. ⌜ MetWith rule (row-counts counts) at s (now (words .entry)) (now (words .exit)) r ⌝ }
 {
-    let a = meet_row(table, rule, words, at, &s[0], regs);
-    let b = meet_row(table, rule, words, at + ROW_WORDS, &s[1], slots);
+    let a = meet_row(table, rule, words, at, &s[0], counts.regs);
+    let b = meet_row(table, rule, words, at + ROW_WORDS, &s[1], counts.slots);
     a | b
 }
 
@@ -333,9 +338,9 @@ fn load_row(words: &[u16], at: usize) -> [u16; ROW_WORDS]
 }
 
 // The state that stands at `at`.
-pub fn load(words: &[u16], at: usize, regs: usize, slots: usize) -> State
-    requires { ⌜ (at + state-words ≤ length (now words)) × (regs ≤ max-regs) × (slots ≤ max-slots) ⌝ }
-    ensures { λ r. ⌜ state-of (regs ∷ slots ∷ []) r ≡ stored-state (regs ∷ slots ∷ []) at (now (words .entry)) ⌝ }
+pub fn load(words: &[u16], at: usize) -> State
+    requires { ⌜ at + state-words ≤ length (now words) ⌝ }
+    ensures { λ r. ⌜ ((counts : List ℕ) → RowsFit counts → state-of counts r ≡ stored-state counts at (now (words .entry))) ⌝ }
 {
     let a = load_row(words, at);
     let b = load_row(words, at + ROW_WORDS);
@@ -355,12 +360,12 @@ fn store_row(words: &mut [u16], at: usize, row: &[u16; ROW_WORDS], n: usize)
 }
 
 // The state written at `at`.
-pub fn store(words: &mut [u16], at: usize, s: State, regs: usize, slots: usize)
-    requires { ⌜ (at + state-words ≤ length (now words)) × (regs ≤ max-regs) × (slots ≤ max-slots) ⌝ }
-    ensures { λ r. ⌜ Stored (regs ∷ slots ∷ []) at s (now (words .entry)) (now (words .exit)) ⌝ }
+pub fn store(words: &mut [u16], at: usize, s: State, counts: RowCounts)
+    requires { ⌜ (at + state-words ≤ length (now words)) × RowsFit (row-counts counts) ⌝ }
+    ensures { λ r. ⌜ Stored (row-counts counts) at s (now (words .entry)) (now (words .exit)) ⌝ }
 {
-    store_row(words, at, &s[0], regs);
-    store_row(words, at + ROW_WORDS, &s[1], slots);
+    store_row(words, at, &s[0], counts.regs);
+    store_row(words, at + ROW_WORDS, &s[1], counts.slots);
 }
 
 // Registers 0 to n - 1, each holding its own name.
@@ -379,7 +384,7 @@ fn real_row(n: usize) -> [u16; ROW_WORDS]
 
 // The state of a block that no walk reaches.
 pub fn unreached_state(rule: Rule) -> State
-    ensures { λ r. ⌜ ((S : Sheet) → S .regs ≤ max-regs → S .slots ≤ max-slots → state-of (S .regs ∷ S .slots ∷ []) r ≡ unreached-state rule S) ⌝ }
+    ensures { λ r. ⌜ ((counts : List ℕ) → RowsFit counts → state-of counts r ≡ unfilled-rows rule counts) ⌝ }
 {
     match rule {
         Rule::Old => [[0u16; ROW_WORDS]; 2],
@@ -390,7 +395,7 @@ pub fn unreached_state(rule: Rule) -> State
 // The state at the start of the entry block.
 pub fn entry_state(rule: Rule, regs: usize) -> State
     requires { ⌜ regs ≤ max-regs ⌝ }
-    ensures { λ r. ⌜ ((S : Sheet) → S .regs ≡ regs → S .slots ≤ max-slots → state-of (S .regs ∷ S .slots ∷ []) r ≡ entry-state rule S) ⌝ }
+    ensures { λ r. ⌜ ((counts : List ℕ) → RowsFit counts → getD counts 0 0 ≡ regs → state-of counts r ≡ entry-rows rule counts) ⌝ }
 {
     let mut s = unreached_state(rule);
     let row = real_row(regs);

@@ -1,5 +1,6 @@
 -- Where everything stands in the lent words: a header, the typed names, the blocks, the steps, the steps' operands, the blocks'
 -- states, and a mark for each block. Every place is computed from the limits, so that none is searched for.
+use mathlib.Core.List.{List, [], _∷_}
 use Prim.Native.Nat.{ℕ, _+_, _*_, _-_, _≤_}
 use native.Mathlib.Omega.{arith}
 use Rattle.paper.specs.Limits.{max-regs, max-vregs, max-blocks, max-succs, max-operands, max-steps, words-size}
@@ -87,8 +88,12 @@ state-base = operand-base + max-steps * operand-words
 abbrev pub row-words : ℕ
 row-words = max-regs
 
+-- how many words each row has
+abbrev pub row-widths : List ℕ
+row-widths = row-words ∷ row-words ∷ []
+
 abbrev pub state-words : ℕ
-state-words = 2 * row-words
+state-words = row-words + row-words
 
 abbrev pub state-at : ℕ → ℕ
 state-at b = state-base + b * state-words

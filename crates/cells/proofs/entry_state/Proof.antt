@@ -1,7 +1,7 @@
 -- `entry_state` meets its contract: the slots are those of the unreached state, and `real_row` gives the registers.
 use native.Mathlib.Omega.{arith}
 use borrow.Author.Needs.{needs}
-use Rattle.cells.proofs.Rows.{entered}
+use Rattle.cells.proofs.States.{entered}
 use Rattle.cells.proofs.entry_state.Statement.{statement}
 use Rattle.cells.proofs.entry_state.Tie as tie
 
@@ -15,7 +15,7 @@ array-set-from-s : tie.Need-array-set-from-s
 array-set-from-s c = search needs
 
 returns : tie.Need-returns
-returns c = λ S regs slots. entered _ S slots _ _ _ (search needs) regs (c .before .unreached-state .ensures S (omega arith) slots) (c .real-row .ensures)
+returns c counts fit e = entered _ counts _ _ _ e (c .before .unreached-state .ensures counts fit) (c .real-row .ensures)
 
 pub entry-state-spec : {M : Type 1} → statement M
 entry-state-spec =

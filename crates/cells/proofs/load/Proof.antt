@@ -1,7 +1,8 @@
 -- `load` meets its contract: the counted words of each row are those that stand at the row's place, and the two rows are the state.
 use native.Mathlib.Omega.{arith}
 use borrow.Author.Needs.{needs}
-use Rattle.cells.proofs.Rows.{loaded}
+use Rattle.cells.specs.States.{stored-state}
+use Rattle.cells.proofs.States.{rows-loaded}
 use Rattle.cells.proofs.load.Statement.{statement}
 use Rattle.cells.proofs.load.Tie as tie
 
@@ -15,7 +16,8 @@ load-row-requires-2 : tie.Need-load-row-requires-2
 load-row-requires-2 c κs = search needs
 
 returns : tie.Need-returns
-returns c = loaded _ _ _ _ _ _ (c .before .load-row .ensures _ (omega arith)) (c .load-row2 .ensures _ (omega arith))
+unfolding stored-state
+returns c counts fit = rows-loaded _ counts _ _ _ fit (c .before .load-row .ensures, (c .load-row2 .ensures, tt))
 
 pub load-spec : {M : Type 1} → statement M
 load-spec = tie.close (tie.spec load-row-requires add-load-row load-row-requires-2 returns)

@@ -1,6 +1,6 @@
 -- `overwrite` meets its contract: `overwrite_row` says it of each row, and `every-row` of the state.
 use borrow.Author.Needs.{needs}
-use Rattle.cells.proofs.Rows.{every-row}
+use Rattle.cells.proofs.States.{no-row-yet, row-step, within-row, every-row}
 use Rattle.cells.proofs.overwrite.Statement.{statement}
 use Rattle.cells.proofs.overwrite.Tie as tie
 
@@ -17,8 +17,9 @@ overwrite-row-requires-2 : tie.Need-overwrite-row-requires-2
 overwrite-row-requires-2 c κs = search needs
 
 returns : tie.Need-returns
-returns c regs slots hr hs =
-    every-row _ _ _ _ _ _ (c .before .before .overwrite-row .ensures _ hr) (c .overwrite-row2 .ensures _ hs)
+returns c counts fit =
+    every-row fit
+    (row-step (row-step no-row-yet _ (c .before .before .overwrite-row .ensures _ (within-row counts fit 0))) _ (c .overwrite-row2 .ensures _ (within-row counts fit 1)))
 
 pub overwrite-spec : {M : Type 1} → statement M
 overwrite-spec =

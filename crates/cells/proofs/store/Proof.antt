@@ -7,7 +7,7 @@ use borrow.Author.Needs.{needs}
 use lib.ListN.{length, getD}
 use mir.Syntax.{w16}
 use Rattle.lists.specs.Rows.{row-length}
-use Rattle.cells.proofs.Rows.{stored}
+use Rattle.cells.proofs.States.{RowsOver, no-row, row-then, both-rows, stored}
 use Rattle.cells.proofs.store.Statement.{statement}
 use Rattle.cells.proofs.store.Tie as tie
 
@@ -36,7 +36,11 @@ returns c =
     let s = one .before .before .before .before in
     let r₀ : length (getD (s .args .t3) 0 []) ≡ 32 = row-length w16 32 2 (s .args .t3) _ (s .good .1 .1 .0) 0 (omega arith) in
     let r₁ : length (getD (s .args .t3) 1 []) ≡ 32 = row-length w16 32 2 (s .args .t3) _ (s .good .1 .1 .0) 1 (omega arith) in
-    stored _ _ _ _ _ _ (s .args .t3) (search needs) (search needs) (search needs) (search needs) r₀ r₁ (one .store-row .ensures) (two .store-row2 .ensures)
+    let rows = both-rows (s .args .t3) (s .good .1 .1 .0 .1 .0 .1) in
+    rw rows
+    (stored _ _ _ _ _ (s .pre .1) (omega (arith, s))
+    (row-then (omega (arith, s)) (omega (arith, s)) (one .store-row .ensures)
+    (row-then (omega (arith, s)) (omega (arith, s)) (two .store-row2 .ensures) no-row)))
 
 pub store-spec : {M : Type 1} → statement M
 store-spec =

@@ -1,6 +1,7 @@
--- `update_stackmap` meets its contract: the registers' mask is 0, which lists none; `safepoint-rows` joins the rows to the state.
+-- `update_stackmap` meets its contract: the registers' mask is 0, which lists none; each is a row of the state more.
 use borrow.Author.Needs.{needs}
-use Rattle.cells.proofs.Rows.{safepoint-rows}
+use mathlib.Core.Path.{_∙_}
+use Rattle.cells.proofs.States.{no-row-yet, row-step, within-row, rows-done, registers-collected, slots-collected}
 use Rattle.cells.proofs.update_stackmap.Statement.{statement}
 use Rattle.cells.proofs.update_stackmap.Tie as tie
 
@@ -17,8 +18,11 @@ collect-row-requires-2 : tie.Need-collect-row-requires-2
 collect-row-requires-2 c κs = search needs
 
 returns : tie.Need-returns
-returns c regs slots hr hs =
-    safepoint-rows _ _ _ _ _ _ _ (c .before .before .collect-row .ensures _ hr) (c .collect-row2 .ensures _ hs)
+returns c counts fit =
+    rows-done fit
+    (row-step
+    (row-step no-row-yet _ (c .before .before .collect-row .ensures _ (within-row counts fit 0) ∙ registers-collected _ _ _)) _
+    (c .collect-row2 .ensures _ (within-row counts fit 1) ∙ slots-collected _ _ _))
 
 pub update-stackmap-spec : {M : Type 1} → statement M
 update-stackmap-spec =
