@@ -22,7 +22,7 @@ use Rattle.paper.specs.declared.Rule.{Rule}
 use Rattle.layout.specs.Layout.{row-words, row-widths, state-words}
 use Rattle.cells.specs.Packed.{cell-of}
 use Rattle.cells.specs.States.{cells-of, state-of, rows-at, stored-state, changes, meet-at, Narrow, RowsFit, MetWith, Stored}
-use Rattle.cells.specs.Laws.{state-row, stored-stays}
+use Rattle.cells.specs.Laws.{state-row, narrow-at, stored-stays}
 use Rattle.cells.proofs.Rows.{placed-over, placed-all, none-listed, cells-same, met-over, unchanged, same-cells}
 
 -- a state by value
@@ -83,18 +83,13 @@ both-rows (x ∷ []) e = absurd (omega arith)
 both-rows (x ∷ y ∷ z ∷ s) e = absurd (omega arith)
 
 -- the states at the start
-each-narrow : (widths counts : List ℕ) → Narrow widths counts → ((k : ℕ) → getD widths k 0 ≤ row-words) → (k : ℕ) → getD counts k 0 ≤ row-words
-each-narrow [] [] h w k = omega arith
-each-narrow (width ∷ widths) (n ∷ counts) h w zero = omega (arith, w 0)
-each-narrow (width ∷ widths) (n ∷ counts) h w (suc k) = each-narrow widths counts (h .1) (λ j. w (suc j)) k
-
 pub within-row : (counts : List ℕ) → RowsFit counts → (k : ℕ) → getD counts k 0 ≤ row-words
-within-row counts fit = each-narrow row-widths counts fit widths
+within-row counts fit k = omega (arith, narrow-at row-widths counts fit k, widest k)
   where
-    widths : (k : ℕ) → getD row-widths k 0 ≤ row-words
-    widths zero = omega arith
-    widths (suc zero) = omega arith
-    widths (suc (suc k)) = omega arith
+    widest : (k : ℕ) → getD row-widths k 0 ≤ row-words
+    widest zero = omega arith
+    widest (suc zero) = omega arith
+    widest (suc (suc k)) = omega arith
 
 pub unfilled-state : (rule : Rule) (w : ℕ) → cell-of w ≡ unfilled rule → (widths counts : List ℕ) → Narrow widths counts → ((k : ℕ) → getD counts k 0 ≤ row-words)
     → state-of counts (replicate (length widths) (replicate row-words w)) ≡ unfilled-rows rule counts

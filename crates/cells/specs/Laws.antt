@@ -96,6 +96,12 @@ state-store (n ∷ counts) [] row i v = refl
 state-store (n ∷ counts) (x ∷ s) zero i v = ap (λ (r : List Cell). r ∷ state-of counts s) (ap (map cell-of) (take-set n x i v) ∙ map-set cell-of (take n x) i v)
 state-store (n ∷ counts) (x ∷ s) (suc row) i v = ap (λ (t : State). map cell-of (take n x) ∷ t) (state-store counts s row i v)
 
+-- no count is above its row's width
+pub narrow-at : (widths counts : List ℕ) → Narrow widths counts → (k : ℕ) → getD counts k 0 ≤ getD widths k 0
+narrow-at [] [] h k = omega arith
+narrow-at (width ∷ widths) (n ∷ counts) h zero = h .0
+narrow-at (width ∷ widths) (n ∷ counts) h (suc k) = narrow-at widths counts (h .1) k
+
 -- a state whose words stay
 pub stored-stays : (widths counts : List ℕ) (at : ℕ) (words words′ : List ℕ) → length words′ ≡ length words → Narrow widths counts → at + total widths ≤ length words
     → ((i : ℕ) → at ≤ i → i < at + total widths → getD words′ i 0 ≡ getD words i 0) → state-of counts (rows-at widths at words′) ≡ state-of counts (rows-at widths at words)

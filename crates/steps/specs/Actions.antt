@@ -14,9 +14,10 @@ use Rattle.lists.specs.Region.{region}
 use Rattle.lists.specs.Bits.{set-bits}
 use Rattle.paper.specs.Text.{Name}
 use Rattle.paper.specs.Sheet.{Operand, Step, spill, reload, move, change, operation, safepoint}
-use Rattle.paper.specs.Limits.{max-regs, max-slots, max-operands, max-steps}
+use Rattle.paper.specs.Limits.{max-operands, max-steps}
 use Rattle.layout.specs.Layout.{step-base, step-words, operand-base, defs-from, operand-words, all-words}
 use Rattle.cells.specs.Packed.{name-of-word, marked}
+use Rattle.cells.specs.States.{RowsFit}
 use Rattle.steps.specs.declared.Action.{Action}
 use Rattle.steps.specs.declared.Action.the-variants.{Spill, Reload, Move, Change, Operation, Safepoint}
 
@@ -71,24 +72,24 @@ steps-at words k zero = []
 steps-at words k (suc n) = step-of words (action-at words k) ∷ steps-at words (k + 1) n
 
 -- the numbers of an action are below the counts, and its operands' registers as `Register` says
-abbrev pub Within : ℕ → ℕ → (ℕ → Type 0) → List ℕ → Action → Type 0
-Within regs slots Register words (Spill k r) = (k < slots) × (r < regs)
-Within regs slots Register words (Reload r k) = (r < regs) × (k < slots)
-Within regs slots Register words (Move into from) = (into < regs) × (from < regs)
-Within regs slots Register words (Change inst k from to) = k < slots
-Within regs slots Register words (Operation inst at n m) =
+abbrev pub Within : List ℕ → (ℕ → Type 0) → List ℕ → Action → Type 0
+Within counts Register words (Spill k r) = (k < getD counts 1 0) × (r < getD counts 0 0)
+Within counts Register words (Reload r k) = (r < getD counts 0 0) × (k < getD counts 1 0)
+Within counts Register words (Move into from) = (into < getD counts 0 0) × (from < getD counts 0 0)
+Within counts Register words (Change inst k from to) = k < getD counts 1 0
+Within counts Register words (Operation inst at n m) =
     (n ≤ max-operands) × (m ≤ max-operands) × (at + operand-words ≤ length words)
     × ((i : ℕ) → i < n → Register (getD words (at + i) 0 / 1024))
     × ((i : ℕ) → i < m → Register (getD words (at + defs-from + i) 0 / 1024))
-Within regs slots Register words (Safepoint inst mask) = mask < 2 ^ slots
+Within counts Register words (Safepoint inst mask) = mask < 2 ^ getD counts 1 0
 
 -- as a sheet is read: a register below the count, or none
-abbrev pub Ranged : ℕ → ℕ → List ℕ → Action → Type 0
-Ranged regs slots words a = Within regs slots (λ r. (r < regs) ⊎ (r ≡ no-register)) words a
+abbrev pub Ranged : List ℕ → List ℕ → Action → Type 0
+Ranged counts words a = Within counts (λ r. (r < getD counts 0 0) ⊎ (r ≡ no-register)) words a
 
 -- as an analysis runs: no allocation is missing
-abbrev pub InRange : ℕ → ℕ → List ℕ → Action → Type 0
-InRange regs slots words a = Within regs slots (λ r. r < regs) words a
+abbrev pub InRange : List ℕ → List ℕ → Action → Type 0
+InRange counts words a = Within counts (λ r. r < getD counts 0 0) words a
 
 -- the marks of an operation's defs are those of `T`
 abbrev pub Honest : (Name → Bool) → List ℕ → Action → Type 0
@@ -118,12 +119,11 @@ RoomFor (Operation inst at n m) words = (n ≤ max-operands) × (m ≤ max-opera
 RoomFor (Safepoint inst mask) words = Unit {0}
 
 -- the steps of a block can be run
-pub record Runnable (regs slots : ℕ) (words : List ℕ) (first count : ℕ) : Type 0 where
-  pub regs-fit : regs ≤ max-regs
-  pub slots-fit : slots ≤ max-slots
+pub record Runnable (counts words : List ℕ) (first count : ℕ) : Type 0 where
+  pub rows-fit : RowsFit counts
   pub steps-fit : first + count ≤ max-steps
   pub words-fit : all-words ≤ length words
-  pub in-range : (k : ℕ) → first ≤ k → k < first + count → InRange regs slots words (action-at words k)
+  pub in-range : (k : ℕ) → first ≤ k → k < first + count → InRange counts words (action-at words k)
 
 abbrev pub HonestSteps : (Name → Bool) → List ℕ → ℕ → ℕ → Type 0
 HonestSteps ref words first count = (k : ℕ) → first ≤ k → k < first + count → Honest ref words (action-at words k)

@@ -13,30 +13,48 @@ use lib.ListN.{length, getD}
 use Rattle.lists.specs.Region.{region}
 use Rattle.lists.specs.Regions.{All, all-at}
 use Rattle.paper.specs.Report.{unallocated, first-list, missing-names}
-use Rattle.paper.specs.Limits.{max-regs, max-slots}
-use Rattle.layout.specs.Layout.{defs-from}
-use Rattle.steps.specs.Actions.{no-register, register-of, operand-of, operands, step-of, Within, Ranged, InRange, RoomFor}
+use Rattle.layout.specs.Layout.{defs-from, row-words, row-widths}
+use Rattle.cells.specs.States.{RowsFit}
+use Rattle.cells.specs.Laws.{narrow-at}
+use Rattle.steps.specs.Actions.{no-register, register-of, operand-of, operands, step-of, action-at, Within, Ranged, InRange, RoomFor, Runnable}
 use Rattle.steps.specs.declared.Action.{Action}
 use Rattle.steps.specs.declared.Action.the-variants.{Spill, Reload, Move, Change, Operation, Safepoint}
 
--- what is in range of fewer registers and slots is in range of the most
-pub in-range-most : (regs slots : ℕ) (words : List ℕ) (a : Action) → regs ≤ max-regs → slots ≤ max-slots → InRange regs slots words a → InRange max-regs max-slots words a
-in-range-most regs slots words (Spill k r) hr hs h = (omega arith, omega arith)
-in-range-most regs slots words (Reload r k) hr hs h = (omega arith, omega arith)
-in-range-most regs slots words (Move into from) hr hs h = (omega arith, omega arith)
-in-range-most regs slots words (Change inst k from to) hr hs h = omega arith
-in-range-most regs slots words (Operation inst at n m) hr hs h =
-    (h .0, h .1, h .2, λ i q. let b = h .3 i q in omega arith, λ i q. let b = h .4 i q in omega arith)
-in-range-most regs slots words (Safepoint inst mask) hr hs h = let p : 2 ^ slots ≤ 2 ^ max-slots = pow-mono hs in omega arith
+-- what is in range of fewer cells is in range of the most
+pub in-range-most : (counts words : List ℕ) (a : Action) → RowsFit counts → InRange counts words a → InRange row-widths words a
+in-range-most counts words a fit h = most a h
+  where
+    regs : getD counts 0 0 ≤ row-words
+    regs = narrow-at row-widths counts fit 0
+
+    slots : getD counts 1 0 ≤ row-words
+    slots = narrow-at row-widths counts fit 1
+
+    most : (a : Action) → InRange counts words a → InRange row-widths words a
+    most (Spill k r) h = (omega (arith, slots), omega (arith, regs))
+    most (Reload r k) h = (omega (arith, regs), omega (arith, slots))
+    most (Move into from) h = (omega (arith, regs), omega (arith, regs))
+    most (Change inst k from to) h = omega (arith, slots)
+    most (Operation inst at n m) h =
+        (h .0, h .1, h .2, λ i q. let b = h .3 i q in omega (arith, regs), λ i q. let b = h .4 i q in omega (arith, regs))
+    most (Safepoint inst mask) h = let p : 2 ^ getD counts 1 0 ≤ 2 ^ row-words = pow-mono slots in omega arith
+
+pub runnable-most : {counts words : List ℕ} {first count : ℕ} → Runnable counts words first count → Runnable row-widths words first count
+runnable-most {counts} {words} r = record {
+  rows-fit = (omega arith, (omega arith, tt));
+  steps-fit = r .steps-fit;
+  words-fit = r .words-fit;
+  in-range = λ k lo hi. in-range-most counts words (action-at words k) (r .rows-fit) (r .in-range k lo hi);
+}
 
 -- a step that was read has room for its operands
-pub room-within : (regs slots : ℕ) (Register : ℕ → Type 0) (l : List ℕ) (a : Action) → Within regs slots Register l a → RoomFor a l
-room-within regs slots Register l (Spill slot r) w = tt
-room-within regs slots Register l (Reload r slot) w = tt
-room-within regs slots Register l (Move into from) w = tt
-room-within regs slots Register l (Change inst slot from to) w = tt
-room-within regs slots Register l (Operation inst at uses defs) w = (w .0, w .1, w .2)
-room-within regs slots Register l (Safepoint inst mask) w = tt
+pub room-within : (counts : List ℕ) (Register : ℕ → Type 0) (l : List ℕ) (a : Action) → Within counts Register l a → RoomFor a l
+room-within counts Register l (Spill slot r) w = tt
+room-within counts Register l (Reload r slot) w = tt
+room-within counts Register l (Move into from) w = tt
+room-within counts Register l (Change inst slot from to) w = tt
+room-within counts Register l (Operation inst at uses defs) w = (w .0, w .1, w .2)
+room-within counts Register l (Safepoint inst mask) w = tt
 
 -- where no allocation is missing, no register is none
 pub both-none : {A : Type 0} (a b : List A) → first-list a b ≡ [] → (a ≡ []) × (b ≡ [])
@@ -63,13 +81,13 @@ module _ (regs : ℕ) (words : List ℕ) (at n : ℕ) (room : at + n ≤ length 
       let d : getD words (at + i) 0 / 1024 ≡ no-register → ⊥ = all-at (λ w. w / 1024 ≡ no-register → ⊥) n at words room (all-allocated (region at n words) e) i h in
       ⊎-elim (λ b. b) (λ q. absurd (d q)) (r i h)
 
-pub allocated : (regs slots : ℕ) (words : List ℕ) (a : Action) → Ranged regs slots words a → missing-names (step-of words a) ≡ [] → InRange regs slots words a
+pub allocated : (counts words : List ℕ) (a : Action) → Ranged counts words a → missing-names (step-of words a) ≡ [] → InRange counts words a
 unfolding missing-names step-of
-allocated regs slots words (Spill k r) h e = h
-allocated regs slots words (Reload r k) h e = h
-allocated regs slots words (Move into from) h e = h
-allocated regs slots words (Change inst k from to) h e = h
-allocated regs slots words (Operation inst at n m) h e =
+allocated counts words (Spill k r) h e = h
+allocated counts words (Reload r k) h e = h
+allocated counts words (Move into from) h e = h
+allocated counts words (Change inst k from to) h e = h
+allocated counts words (Operation inst at n m) h e =
     let p : (unallocated (operands at n words) ≡ []) × (unallocated (operands (at + defs-from) m words) ≡ []) = both-none _ _ e in
-    (h .0, h .1, h .2, has-register regs words at n (omega arith) (p .0) (h .3), has-register regs words (at + defs-from) m (omega arith) (p .1) (h .4))
-allocated regs slots words (Safepoint inst mask) h e = h
+    (h .0, h .1, h .2, has-register (getD counts 0 0) words at n (omega arith) (p .0) (h .3), has-register (getD counts 0 0) words (at + defs-from) m (omega arith) (p .1) (h .4))
+allocated counts words (Safepoint inst mask) h e = h

@@ -78,19 +78,19 @@ module _ {l m : List ℕ} {n : ℕ} (same : SameOperands l m n) (k : ℕ) (h : k
       rw (same-uses at (p .0) uses (q .0) (q .2), same-defs at (p .0) defs (q .1) (q .2))
   same-step (Safepoint inst mask) p q = refl
 
-  pub same-within : (regs slots : ℕ) (Register : ℕ → Type 0) (a : Action) → Packs k a → Within regs slots Register l a → Within regs slots Register m a
-  same-within regs slots Register (Spill slot r) p w = w
-  same-within regs slots Register (Reload r slot) p w = w
-  same-within regs slots Register (Move into from) p w = w
-  same-within regs slots Register (Change inst slot from to) p w = w
-  same-within regs slots Register (Operation inst at uses defs) p w = (
+  pub same-within : (counts : List ℕ) (Register : ℕ → Type 0) (a : Action) → Packs k a → Within counts Register l a → Within counts Register m a
+  same-within counts Register (Spill slot r) p w = w
+  same-within counts Register (Reload r slot) p w = w
+  same-within counts Register (Move into from) p w = w
+  same-within counts Register (Change inst slot from to) p w = w
+  same-within counts Register (Operation inst at uses defs) p w = (
     w .0,
     w .1,
     rw (same .same-length) (w .2),
     (λ i h. rw (same-operand at (p .0) i (omega arith)) (w .3 i h)),
     λ i h. rw (same-def at (p .0) i (omega arith)) (w .4 i h),
   )
-  same-within regs slots Register (Safepoint inst mask) p w = w
+  same-within counts Register (Safepoint inst mask) p w = w
 
   module _ (ref ref′ : Name → Bool) (e : (name : Name) → ref′ name ≡ ref name) where
     pub same-honest : (a : Action) → Packs k a → RoomFor a l → Honest ref l a → Honest ref′ m a

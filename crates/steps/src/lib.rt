@@ -12,9 +12,9 @@ ghost use Rattle.paper.specs.Sheet as sheet;
 ghost use Rattle.paper.specs.Steps as paper;
 ghost use Rattle.paper.specs.Report.{unallocated, missing-names, inst-of};
 ghost use Rattle.paper.specs.Limits.{max-regs, max-slots, max-steps};
-ghost use Rattle.layout.specs.Layout.{step-base, step-words, all-words};
+ghost use Rattle.layout.specs.Layout.{step-base, step-words, row-widths, all-words};
 ghost use Rattle.cells.specs.Packed.{name-of-word};
-ghost use Rattle.cells.specs.States.{state-of};
+ghost use Rattle.cells.specs.States.{state-of, RowsFit};
 ghost use Rattle.steps.specs.Actions.{operands, step-of, action-at, steps-at, InRange, Honest, packed, Packs, RoomFor, Runnable, HonestSteps};
 ghost use Rattle.steps.specs.Faults.{fault-of, some-in};
 ghost use Rattle.steps.specs.Checks.{is-error, use-error, change-error, slot-error, first-error, use-in, slot-in};
@@ -352,8 +352,8 @@ fn check_stackmap(row: &[u16; ROW_WORDS], mask: u32) -> CheckerError
 
 // What is wrong with a step in a state.
 pub fn check(words: &[u16], s: State, action: Action) -> CheckerError
-    requires { ⌜ InRange max-regs max-slots (now words) action ⌝ }
-    ensures { λ r. ⌜ ((regs slots : ℕ) → InRange regs slots (now (words .entry)) action → fault-of r ≡ paper.check (step-of (now (words .entry)) action) (state-of (regs ∷ slots ∷ []) s)) ⌝ }
+    requires { ⌜ InRange row-widths (now words) action ⌝ }
+    ensures { λ r. ⌜ ((counts : List ℕ) → InRange counts (now (words .entry)) action → fault-of r ≡ paper.check (step-of (now (words .entry)) action) (state-of counts s)) ⌝ }
 {
     match action {
         Action::Change {
@@ -376,7 +376,7 @@ pub fn check(words: &[u16], s: State, action: Action) -> CheckerError
 // A def: its register gets its name, which under the house rule stands nowhere else.
 fn define(rule: Rule, s: &mut State, operand: u16)
     requires { ⌜ operand / 1024 < max-regs ⌝ }
-    ensures { λ r. ⌜ ((regs slots : ℕ) → regs ≤ max-regs → slots ≤ max-slots → state-of (regs ∷ slots ∷ []) (now (s .exit)) ≡ define-word rule operand (state-of (regs ∷ slots ∷ []) (now (s .entry)))) ⌝ }
+    ensures { λ r. ⌜ ((counts : List ℕ) → RowsFit counts → state-of counts (now (s .exit)) ≡ define-word rule operand (state-of counts (now (s .entry)))) ⌝ }
 {
     match rule {
         Rule::Old => {}
@@ -389,7 +389,7 @@ fn define(rule: Rule, s: &mut State, operand: u16)
 // The defs in order.
 fn define_all(words: &[u16], at: usize, n: usize, rule: Rule, s: &mut State)
     requires { ⌜ (at + n ≤ length (now words)) × ((i : ℕ) → i < n → getD (now words) (at + i) 0 / 1024 < max-regs) ⌝ }
-    ensures { λ r. ⌜ ((regs slots : ℕ) → regs ≤ max-regs → slots ≤ max-slots → state-of (regs ∷ slots ∷ []) (now (s .exit)) ≡ define-words rule (region at n (now (words .entry))) (state-of (regs ∷ slots ∷ []) (now (s .entry)))) ⌝ }
+    ensures { λ r. ⌜ ((counts : List ℕ) → RowsFit counts → state-of counts (now (s .exit)) ≡ define-words rule (region at n (now (words .entry))) (state-of counts (now (s .entry)))) ⌝ }
 {
     let mut place = at;
     let mut left = n;
@@ -403,7 +403,7 @@ fn define_all(words: &[u16], at: usize, n: usize, rule: Rule, s: &mut State)
 // An ownership change.
 fn change(rule: Rule, s: &mut State, slot: usize, from: u16, to: u16)
     requires { ⌜ slot < max-slots ⌝ }
-    ensures { λ r. ⌜ ((regs slots : ℕ) → regs ≤ max-regs → slots ≤ max-slots → slot < slots → (ref : Name → Bool) (inst : ℕ) → state-of (regs ∷ slots ∷ []) (now (s .exit)) ≡ paper.effect rule ref (sheet.change inst slot (name-of-word from) (name-of-word to)) (state-of (regs ∷ slots ∷ []) (now (s .entry)))) ⌝ }
+    ensures { λ r. ⌜ ((counts : List ℕ) → RowsFit counts → slot < getD counts 1 0 → (ref : Name → Bool) (inst : ℕ) → state-of counts (now (s .exit)) ≡ paper.effect rule ref (sheet.change inst slot (name-of-word from) (name-of-word to)) (state-of counts (now (s .entry)))) ⌝ }
 {
     match rule {
         Rule::Old => {
@@ -419,8 +419,8 @@ fn change(rule: Rule, s: &mut State, slot: usize, from: u16, to: u16)
 
 // A step takes effect in the state that is lent.
 fn update_in(words: &[u16], rule: Rule, s: &mut State, action: Action)
-    requires { ⌜ InRange max-regs max-slots (now words) action ⌝ }
-    ensures { λ r. ⌜ ((regs slots : ℕ) → regs ≤ max-regs → slots ≤ max-slots → InRange regs slots (now (words .entry)) action → (ref : Name → Bool) → Honest ref (now (words .entry)) action → state-of (regs ∷ slots ∷ []) (now (s .exit)) ≡ paper.effect rule ref (step-of (now (words .entry)) action) (state-of (regs ∷ slots ∷ []) (now (s .entry)))) ⌝ }
+    requires { ⌜ InRange row-widths (now words) action ⌝ }
+    ensures { λ r. ⌜ ((counts : List ℕ) → RowsFit counts → InRange counts (now (words .entry)) action → (ref : Name → Bool) → Honest ref (now (words .entry)) action → state-of counts (now (s .exit)) ≡ paper.effect rule ref (step-of (now (words .entry)) action) (state-of counts (now (s .entry)))) ⌝ }
 {
     match action {
         Action::Spill { slot, reg } => cells::copy(s, 1, slot, 0, reg),
@@ -443,16 +443,9 @@ fn update_in(words: &[u16], rule: Rule, s: &mut State, action: Action)
 }
 
 // A step takes effect.
-pub fn update(
-    words: &[u16],
-    rule: Rule,
-    s: State,
-    regs: usize,
-    slots: usize,
-    action: Action,
-) -> State
-    requires { ⌜ (regs ≤ max-regs) × (slots ≤ max-slots) × InRange regs slots (now words) action ⌝ }
-    ensures { λ r. ⌜ ((ref : Name → Bool) → Honest ref (now (words .entry)) action → state-of (regs ∷ slots ∷ []) r ≡ paper.effect rule ref (step-of (now (words .entry)) action) (state-of (regs ∷ slots ∷ []) s)) ⌝ }
+pub fn update(words: &[u16], rule: Rule, s: State, action: Action) -> State
+    requires { ⌜ InRange row-widths (now words) action ⌝ }
+    ensures { λ r. ⌜ ((counts : List ℕ) → RowsFit counts → InRange counts (now (words .entry)) action → (ref : Name → Bool) → Honest ref (now (words .entry)) action → state-of counts r ≡ paper.effect rule ref (step-of (now (words .entry)) action) (state-of counts s)) ⌝ }
 {
     let mut after = s;
     update_in(words, rule, &mut after, action);
@@ -460,17 +453,9 @@ pub fn update(
 }
 
 // The steps of a block, one after the other.
-pub fn effects(
-    words: &[u16],
-    rule: Rule,
-    s: State,
-    regs: usize,
-    slots: usize,
-    first: usize,
-    count: usize,
-) -> State
-    requires { ⌜ Runnable regs slots (now words) first count ⌝ }
-    ensures { λ r. ⌜ ((ref : Name → Bool) → HonestSteps ref (now (words .entry)) first count → state-of (regs ∷ slots ∷ []) r ≡ paper.effects rule ref (steps-at (now (words .entry)) first count) (state-of (regs ∷ slots ∷ []) s)) ⌝ }
+pub fn effects(words: &[u16], rule: Rule, s: State, first: usize, count: usize) -> State
+    requires { ⌜ Runnable row-widths (now words) first count ⌝ }
+    ensures { λ r. ⌜ ((counts : List ℕ) → Runnable counts (now (words .entry)) first count → (ref : Name → Bool) → HonestSteps ref (now (words .entry)) first count → state-of counts r ≡ paper.effects rule ref (steps-at (now (words .entry)) first count) (state-of counts s)) ⌝ }
 {
     let mut t = s;
     let mut k = first;

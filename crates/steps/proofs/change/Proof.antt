@@ -1,6 +1,6 @@
 -- `change` meets its contract: one case for each rule; the slot is below the count, so the word that is read means the state's
 -- cell; under the house rule what becomes of it is stored in the state that `overwrite` leaves.
-use mathlib.Core.List.{[], _∷_}
+use mathlib.Core.List.{List, [], _∷_}
 use borrow.Author.Needs.{needs}
 use Rattle.steps.proofs.LawsEffects.{old-change, house-change}
 use Rattle.steps.proofs.change.Statement.{statement}
@@ -58,16 +58,16 @@ index-2-s-2 : tie.Need-index-2-s-2
 index-2-s-2 c = search needs
 
 returns : tie.Need-returns
-returns c regs slots hr hs h ref inst =
+returns c counts fit h ref inst =
     let s = c .before .before .before .before in
-    rw (c .before .before .enum-told .given .1) (old-change (regs ∷ slots ∷ []) (s .args .s .now) _ _ _ h ref inst _ (c .old-changed .ensures))
+    rw (c .before .before .enum-told .given .1) (old-change counts (s .args .s .now) _ _ _ h ref inst _ (c .old-changed .ensures))
 
 returns-2 : tie.Need-returns-2
-returns-2 c regs slots hr hs h ref inst =
+returns-2 c counts fit h ref inst =
     let w = c .before .before in
     let s = w .before .before .before .before in
     rw (w .before .before .enum-told2 .given .1)
-    (house-change (regs ∷ slots ∷ []) (s .args .s .now) _ _ _ h ref inst _ _ (w .house-changed .ensures) (c .overwrite .ensures regs slots hr hs))
+    (house-change counts (s .args .s .now) _ _ _ h ref inst _ _ (w .house-changed .ensures) (c .overwrite .ensures counts fit))
 
 pub change-spec : {M : Type 1} → statement M
 change-spec =

@@ -68,8 +68,8 @@ unfolding step-of paper.check
 returns c =
     let a = c .before .before .before in
     let s = a .before .before .before in
-    λ regs slots h.
-    rw (a .action .given .1, c .check-change .ensures) (change-means-in (regs ∷ slots ∷ []) (s .args .t2) _ _ (rw (a .action .given .1) at h))
+    λ counts h.
+    rw (a .action .given .1, c .check-change .ensures) (change-means-in counts (s .args .t2) _ _ (rw (a .action .given .1) at h))
 
 returns-2 : tie.Need-returns-2
 unfolding step-of paper.check
@@ -77,20 +77,20 @@ returns-2 c =
     let a = c .before .before .before in
     let s = a .before .before .before in
     let r = rw (a .action2 .given .1) at (s .pre) in
-    λ regs slots h.
-    rw (a .action2 .given .1, c .check-uses .ensures) (uses-mean (regs ∷ slots ∷ []) (s .args .t2) _ _ _ (omega arith) (r .3) ((rw (a .action2 .given .1) at h) .3))
+    λ counts h.
+    rw (a .action2 .given .1, c .check-uses .ensures) (uses-mean counts (s .args .t2) _ _ _ (omega arith) (r .3) ((rw (a .action2 .given .1) at h) .3))
 
 returns-3 : tie.Need-returns-3
 unfolding step-of paper.check
 returns-3 c =
     let a = c .before .before .before in
     let s = a .before .before .before in
-    λ regs slots h.
-    rw (a .action3 .given .1, c .check-stackmap .ensures) (slots-mean (regs ∷ slots ∷ []) (s .args .t2) _ (rw (a .action3 .given .1) at h))
+    λ counts h.
+    rw (a .action3 .given .1, c .check-stackmap .ensures) (slots-mean counts (s .args .t2) _ (rw (a .action3 .given .1) at h))
 
 returns-4 : tie.Need-returns-4
 unfolding fault-of
-returns-4 c = let s = c .before .before in λ regs slots h. quiet (s .args .words .now) (s .args .action) _ (c .match .keys4)
+returns-4 c = let s = c .before .before in λ counts h. quiet (s .args .words .now) (s .args .action) _ (c .match .keys4)
 
 pub check-spec : {M : Type 1} → statement M
 check-spec =

@@ -1,6 +1,6 @@
 -- `define` meets its contract: the match leaves the state as it was or, under the house rule, as `overwrite` does; the name is
 -- stored in its register, which is below 32 and so not 63 (`defined`).
-use mathlib.Core.List.{[], _∷_}
+use mathlib.Core.List.{List, [], _∷_}
 use mathlib.Core.Logic.{⊎-elim}
 use mathlib.Core.Path.{_≡_, refl, _∙_}
 use native.Mathlib.Omega.{arith}
@@ -37,11 +37,10 @@ index-2-s : tie.Need-index-2-s
 index-2-s c = search needs
 
 returns : tie.Need-returns
-returns c regs slots hr hs =
+returns c counts fit =
     let a = c .before .args in
-    let counts = regs ∷ slots ∷ [] in
     let cleared : state-of counts (c .match .s) ≡ cleared-of (a .rule) (name-of-word (a .operand)) (state-of counts (a .s .now)) =
-    ⊎-elim (λ w. rw (w .2, w .1 .given .1) (cleared-old _ _)) (λ w. rw (w .4, w .1 .given .1) (w .3 .ensures regs slots hr hs ∙ cleared-house _ _)) (c .match .came) in
+    ⊎-elim (λ w. rw (w .2, w .1 .given .1) (cleared-old _ _)) (λ w. rw (w .4, w .1 .given .1) (w .3 .ensures counts fit ∙ cleared-house _ _)) (c .match .came) in
     defined counts _ _ _ _ (c .match .s) refl (λ e. omega arith) cleared
 
 pub define-spec : {M : Type 1} → statement M

@@ -1,14 +1,14 @@
 -- `define_all` meets its contract: before each turn the defs that are left, from the state so far, give what all of them give from
 -- the first state; there is one less each turn.
-use mathlib.Core.List.{[], _∷_}
+use mathlib.Core.List.{List, [], _∷_}
 use mathlib.Core.Path.{_≡_, refl, _∙_}
 use Prim.Native.Nat.{ℕ, _+_, _/_, _≤_, _<_}
 use native.Mathlib.Omega.{arith}
 use borrow.Author.Needs.{needs}
 use Rattle.lists.specs.Regions.{at-place}
 use Rattle.lists.specs.Region.{region}
-use Rattle.paper.specs.Limits.{max-regs, max-slots}
-use Rattle.cells.specs.States.{state-of}
+use Rattle.paper.specs.Limits.{max-regs}
+use Rattle.cells.specs.States.{state-of, RowsFit}
 use Rattle.steps.specs.Defs.{define-words}
 use Rattle.steps.proofs.LawsEffects.{no-def, next-def}
 use Rattle.steps.proofs.define_all.Statement.{statement}
@@ -17,14 +17,14 @@ use Rattle.steps.proofs.define_all.Tie as tie
 abbrev Inv-loop : tie.InvT-loop
 Inv-loop words at n rule s₀ place₀ left₀ s place left =
     (place + left ≡ at + n) × (at ≤ place)
-    × ((regs slots : ℕ) → regs ≤ max-regs → slots ≤ max-slots
-    → define-words rule (region place left words) (state-of (regs ∷ slots ∷ []) s) ≡ define-words rule (region at n words) (state-of (regs ∷ slots ∷ []) s₀))
+    × ((counts : List ℕ) → RowsFit counts
+    → define-words rule (region place left words) (state-of counts s) ≡ define-words rule (region at n words) (state-of counts s₀))
 
 abbrev μ-loop : tie.MeasureT-loop
 μ-loop words at n rule s₀ place₀ left₀ s place left = left
 
 loop-holds : tie.Need-loop-holds Inv-loop μ-loop
-loop-holds c = (refl, search needs, λ regs slots hr hs. refl)
+loop-holds c = (refl, search needs, λ counts fit. refl)
 
 mul-define : tie.Need-mul-define Inv-loop μ-loop
 mul-define c = search needs
@@ -53,12 +53,12 @@ loop-again c =
     let l = t .before in (
       omega arith,
       omega arith,
-      λ regs slots hr hs.
-          rw (c .define .ensures regs slots hr hs) (next-def _ _ _ _ _ (t .loop-test .taken) (omega arith)) ∙ l .loop .inv .2 regs slots hr hs,
+      λ counts fit.
+          rw (c .define .ensures counts fit) (next-def _ _ _ _ _ (t .loop-test .taken) (omega arith)) ∙ l .loop .inv .2 counts fit,
     )
 
 returns : tie.Need-returns Inv-loop μ-loop
-returns c regs slots hr hs = no-def _ _ _ _ _ (c .loop-test .left) ∙ c .before .loop .inv .2 regs slots hr hs
+returns c counts fit = no-def _ _ _ _ _ (c .loop-test .left) ∙ c .before .loop .inv .2 counts fit
 
 pub define-all-spec : {M : Type 1} → statement M
 define-all-spec =

@@ -1,6 +1,6 @@
 -- `update_in` meets its contract: one case for each kind of step; what the function called says of the state is the paper's effect,
 -- by a law of `LawsEffects` or, for `C`, by `change` itself.
-use mathlib.Core.List.{[], _∷_}
+use mathlib.Core.List.{List, [], _∷_}
 use mathlib.Core.Path.{_∙_}
 use native.Mathlib.Omega.{arith}
 use borrow.Author.Needs.{needs}
@@ -53,40 +53,40 @@ update-stackmap-requires c κs = search needs
 
 returns : tie.Need-returns
 unfolding step-of
-returns c regs slots hr hs w ref h =
+returns c counts fit w ref h =
     let a = c .before .before .before in
-    rw (a .action .given .1) (c .copy .ensures (regs ∷ slots ∷ []) ((rw (a .action .given .1) at w) .1) ∙ spill-effect _ ref _ _ _)
+    rw (a .action .given .1) (c .copy .ensures counts ((rw (a .action .given .1) at w) .1) ∙ spill-effect _ ref _ _ _)
 
 returns-2 : tie.Need-returns-2
 unfolding step-of
-returns-2 c regs slots hr hs w ref h =
+returns-2 c counts fit w ref h =
     let a = c .before .before .before in
-    rw (a .action2 .given .1) (c .copy2 .ensures (regs ∷ slots ∷ []) ((rw (a .action2 .given .1) at w) .1) ∙ reload-effect _ ref _ _ _)
+    rw (a .action2 .given .1) (c .copy2 .ensures counts ((rw (a .action2 .given .1) at w) .1) ∙ reload-effect _ ref _ _ _)
 
 returns-3 : tie.Need-returns-3
 unfolding step-of
-returns-3 c regs slots hr hs w ref h =
+returns-3 c counts fit w ref h =
     let a = c .before .before .before in
-    rw (a .action3 .given .1) (c .copy3 .ensures (regs ∷ slots ∷ []) ((rw (a .action3 .given .1) at w) .1) ∙ move-effect _ ref _ _ _)
+    rw (a .action3 .given .1) (c .copy3 .ensures counts ((rw (a .action3 .given .1) at w) .1) ∙ move-effect _ ref _ _ _)
 
 returns-4 : tie.Need-returns-4
 unfolding step-of
-returns-4 c regs slots hr hs w ref h =
+returns-4 c counts fit w ref h =
     let a = c .before .before .before in
-    rw (a .action4 .given .1) (c .change .ensures regs slots hr hs (rw (a .action4 .given .1) at w) ref _)
+    rw (a .action4 .given .1) (c .change .ensures counts fit (rw (a .action4 .given .1) at w) ref _)
 
 returns-5 : tie.Need-returns-5
 unfolding step-of
-returns-5 c regs slots hr hs w ref h =
+returns-5 c counts fit w ref h =
     let a = c .before .before .before in
     let r = rw (a .action5 .given .1) at w in
-    rw (a .action5 .given .1) (c .define-all .ensures regs slots hr hs ∙ operation-effect _ ref _ _ _ _ _ _ (omega arith) (rw (a .action5 .given .1) at h))
+    rw (a .action5 .given .1) (c .define-all .ensures counts fit ∙ operation-effect _ ref _ _ _ _ _ _ (omega arith) (rw (a .action5 .given .1) at h))
 
 returns-6 : tie.Need-returns-6
 unfolding step-of
-returns-6 c regs slots hr hs w ref h =
+returns-6 c counts fit w ref h =
     let a = c .before .before .before in
-    rw (a .action6 .given .1) (c .update-stackmap .ensures regs slots hr hs ∙ safepoint-effect _ ref _ _ _)
+    rw (a .action6 .given .1) (c .update-stackmap .ensures counts fit ∙ safepoint-effect _ ref _ _ _)
 
 pub update-in-spec : {M : Type 1} → statement M
 update-in-spec =
