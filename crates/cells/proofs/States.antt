@@ -22,7 +22,7 @@ use Rattle.paper.specs.declared.Rule.{Rule}
 use Rattle.layout.specs.Layout.{row-words, row-widths, state-words}
 use Rattle.cells.specs.Packed.{cell-of}
 use Rattle.cells.specs.States.{cells-of, state-of, rows-at, stored-state, changes, meet-at, Narrow, RowsFit, MetWith, Stored}
-use Rattle.cells.specs.Laws.{state-row, narrow-at, stored-stays}
+use Rattle.cells.specs.Laws.{state-row, narrow-at, rows-stay}
 use Rattle.cells.proofs.Rows.{placed-over, placed-all, none-listed, cells-same, met-over, unchanged, same-cells}
 
 -- a state by value
@@ -138,7 +138,7 @@ row-kept at n f l l₁ e = rw e (kept-over at n f l)
 rows-stay-behind : (width n at : ℕ) (widths counts l l₁ : List ℕ) → n ≤ width → Kept at n l l₁ → Narrow widths counts → at + width + total widths ≤ length l
     → state-of counts (rows-at widths (at + width) l₁) ≡ state-of counts (rows-at widths (at + width) l)
 rows-stay-behind width n at widths counts l l₁ q k₁ h room =
-    stored-stays widths counts (at + width) l l₁ (k₁ .same-length) h room (λ i lo hi. k₁ .above i (omega arith))
+    rows-stay widths counts (at + width) l l₁ (k₁ .same-length) h room (λ i lo hi. k₁ .above i (omega arith))
 
 module _ {f : List ℕ → ℕ → ℕ → ℕ} where
   pub rows-kept : {widths counts : List ℕ} {at : ℕ} {rows : List (List ℕ)} {l l₂ : List ℕ} → RowsOver f widths counts at rows l l₂ → Kept at (total widths) l l₂

@@ -13,8 +13,9 @@ use Rattle.lists.specs.Region.{region, same-region}
 use Rattle.paper.specs.Text.{real, virtual, name-same}
 use Rattle.paper.specs.Cells.{Cell, absent, unknown, conflicted, named, pick}
 use Rattle.paper.specs.Steps.{State, total, cell-at, store-at}
+use Rattle.layout.specs.Layout.{row-widths, state-words}
 use Rattle.cells.specs.Packed.{name-of-word, marked, of-kind, cell-of}
-use Rattle.cells.specs.States.{cells-of, state-of, rows-at, Narrow}
+use Rattle.cells.specs.States.{cells-of, state-of, rows-at, stored-state, Narrow, RowsFit}
 
 pub pick-yes {ℓ} : {P : Type 0} {B : Type ℓ} (d : Dec P) (x y : B) → P → pick d x y ≡ x
 pick-yes (yes p) x y h = refl
@@ -102,12 +103,17 @@ narrow-at [] [] h k = omega arith
 narrow-at (width ∷ widths) (n ∷ counts) h zero = h .0
 narrow-at (width ∷ widths) (n ∷ counts) h (suc k) = narrow-at widths counts (h .1) k
 
--- a state whose words stay
-pub stored-stays : (widths counts : List ℕ) (at : ℕ) (words words′ : List ℕ) → length words′ ≡ length words → Narrow widths counts → at + total widths ≤ length words
+-- rows whose words stay, and a state whose words do
+pub rows-stay : (widths counts : List ℕ) (at : ℕ) (words words′ : List ℕ) → length words′ ≡ length words → Narrow widths counts → at + total widths ≤ length words
     → ((i : ℕ) → at ≤ i → i < at + total widths → getD words′ i 0 ≡ getD words i 0) → state-of counts (rows-at widths at words′) ≡ state-of counts (rows-at widths at words)
 unfolding state-of rows-at cells-of region total
-stored-stays [] [] at words words′ e narrow fits same = refl
-stored-stays (width ∷ widths) (n ∷ counts) at words words′ e narrow fits same =
+rows-stay [] [] at words words′ e narrow fits same = refl
+rows-stay (width ∷ widths) (n ∷ counts) at words words′ e narrow fits same =
     ap₂ _∷_
     (ap (map cell-of) (same-region at n words words′ (omega arith) e (λ k h. same (at + k) (omega arith) (omega arith))))
-    (stored-stays widths counts (at + width) words words′ e (narrow .1) (omega arith) (λ i h l. same i (omega arith) (omega arith)))
+    (rows-stay widths counts (at + width) words words′ e (narrow .1) (omega arith) (λ i h l. same i (omega arith) (omega arith)))
+
+pub stored-stays : (counts : List ℕ) (at : ℕ) (words words′ : List ℕ) → length words′ ≡ length words → RowsFit counts → at + state-words ≤ length words
+    → ((i : ℕ) → at ≤ i → i < at + state-words → getD words′ i 0 ≡ getD words i 0) → stored-state counts at words′ ≡ stored-state counts at words
+unfolding stored-state total
+stored-stays counts at words words′ e fit room same = rows-stay row-widths counts at words words′ e fit room same

@@ -12,7 +12,7 @@ use Rattle.paper.specs.declared.Rule.{Rule}
 use Rattle.paper.specs.declared.Answer.{Answer}
 use Rattle.layout.specs.Layout.{regs-word, slots-word, blocks-word, state-at}
 use Rattle.cells.specs.States.{stored-state}
-use Rattle.sheet.specs.Loaded.{sheet-of, Loaded}
+use Rattle.sheet.specs.Loaded.{sheet-of, Loaded, counts-in}
 
 -- the words hold a sheet with every operand allocated, and each block's state behind the analysis
 pub record Checkable (rule : Rule) (words : List ℕ) : Type 0 where
@@ -20,7 +20,7 @@ pub record Checkable (rule : Rule) (words : List ℕ) : Type 0 where
   pub few : step-count ((sheet-of words) .body) ≤ max-steps
   pub allocated : missing-allocations (sheet-of words) ≡ []
   pub states : (b : ℕ) → b < getD words blocks-word 0
-      → stored-state (getD words regs-word 0 ∷ getD words slots-word 0 ∷ []) (state-at b) words ≡ checked-from rule (sheet-of words) b
+      → stored-state (counts-in words) (state-at b) words ≡ checked-from rule (sheet-of words) b
 
 -- the lines ls are reported
 pub record Reported (rule : Rule) (ls : List Line) (report : List ℕ) (r : Answer) (report′ : List ℕ) : Type 0 where

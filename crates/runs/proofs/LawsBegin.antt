@@ -6,25 +6,25 @@ use native.Mathlib.Omega.{arith}
 use lib.ListN.{getD, set}
 use Rattle.lists.specs.Kept.{kept-same, kept-then}
 use Rattle.paper.specs.Sheet.{Sheet}
-use Rattle.paper.specs.Steps.{entry-state, unreached-state}
+use Rattle.paper.specs.Steps.{unfilled-rows, entry-rows, entry-state, unreached-state, counts-of}
 use Rattle.paper.specs.Runs.{before, begin, entered}
 use Rattle.paper.specs.declared.Rule.{Rule}
 use Rattle.paper.specs.declared.Rule.the-variants.{Old, House}
 use Rattle.paper.specs.Limits.{max-blocks}
 use Rattle.layout.specs.Layout.{regs-word, slots-word, blocks-word, entry-word, state-at, mark-at}
-use Rattle.cells.specs.States.{state-of, Stored}
-use Rattle.sheet.specs.Loaded.{sheet-of}
-use Rattle.runs.specs.Held.{RunKept, counts-of}
+use Rattle.cells.specs.States.{state-of, RowsFit, Stored}
+use Rattle.sheet.specs.Loaded.{sheet-of, counts-in}
+use Rattle.runs.specs.Held.{RunKept}
 use Rattle.runs.specs.Queue.{Appended}
 use Rattle.runs.specs.Table.{Ready, Holds, mark-of, Tabled, Tables, Entered}
 use Rattle.runs.specs.Stands.{Begins}
 use Rattle.runs.specs.declared.Ring.{Ring}
 use Rattle.runs.proofs.LawsQueue.{none-held}
-use Rattle.runs.proofs.LawsTable.{Alone, alone-both, blocks-are, narrow, holds-stays, tabled-alone, state-marked, mark-set}
+use Rattle.runs.proofs.LawsTable.{Alone, alone-both, blocks-are, rows-fit, holds-stays, tabled-alone, state-marked, mark-set}
 
 -- what a block that nothing came to is checked from
-entered-before : (rule : Rule) (S : Sheet) (b : ℕ) → entered rule S (before rule S b) ≡ unreached-state rule S
-unfolding entered before
+entered-before : (rule : Rule) (S : Sheet) (b : ℕ) → entered rule S (before rule S b) ≡ unfilled-rows rule (counts-of S)
+unfolding entered before unreached-state
 entered-before Old S b = refl
 entered-before House S b = refl
 
@@ -44,18 +44,17 @@ module _ {rule : Rule} {words₀ words : List ℕ} {b : ℕ} (ready : Ready word
   filled-holds : Holds (sheet-of words₀) words
   filled-holds = holds-stays (f .kept) (sheet-here ready)
 
-  pub filled-more : {words₁ : List ℕ} {s : List (List ℕ)} {regs slots : ℕ} (v : ℕ) → b < getD words₀ blocks-word 0
-      → regs ≡ getD words₀ regs-word 0 → slots ≡ getD words₀ slots-word 0
-      → Stored (regs ∷ slots ∷ []) (state-at b) s words words₁
-      → ((S : Sheet) → S .regs ≤ 32 → S .slots ≤ 32 → state-of (counts-of S) s ≡ unreached-state rule S)
+  pub filled-more : {words₁ counts : List ℕ} {s : List (List ℕ)} (v : ℕ) → b < getD words₀ blocks-word 0 → counts ≡ counts-in words₀
+      → Stored counts (state-at b) s words words₁
+      → ((counts : List ℕ) → RowsFit counts → state-of counts s ≡ unfilled-rows rule counts)
       → ((S : Sheet) (k : ℕ) → v ≡ mark-of (before rule S k))
       → Filled rule words₀ (set words₁ (mark-at b) v) (b + 1)
-  filled-more {words₁} {s} v h er es stored unreached mark = record {
+  filled-more {words₁} {s = s} v h e stored unreached mark = record {
     past = omega arith;
     kept = kept-then _ _ (f .kept) (alone .kept) (omega arith) (omega arith) (omega arith) (omega arith);
     tabled =
         tabled-alone filled-holds alone (omega (arith, ready .loaded .bounds .blocks))
-        (state-marked filled-holds b v small stored′ ∙ unreached (sheet-of words₀) (narrow filled-holds .0) (narrow filled-holds .1 .0) ∙ sym (entered-before rule (sheet-of words₀) b))
+        (state-marked filled-holds b v small stored′ ∙ unreached (counts-of (sheet-of words₀)) (rows-fit filled-holds) ∙ sym (entered-before rule (sheet-of words₀) b))
         (mark-set filled-holds b v small stored′ ∙ mark (sheet-of words₀) b)
         (λ k l d. (omega arith, refl))
         (f .tabled);
@@ -67,8 +66,8 @@ module _ {rule : Rule} {words₀ words : List ℕ} {b : ℕ} (ready : Ready word
       alone : Alone b words (set words₁ (mark-at b) v)
       alone = alone-both b small (stored .kept) v
 
-      stored′ : Stored (getD words regs-word 0 ∷ getD words slots-word 0 ∷ []) (state-at b) s words words₁
-      stored′ = rw (f .kept .below regs-word (omega arith), f .kept .below slots-word (omega arith), ← er, ← es) stored
+      stored′ : Stored (counts-in words) (state-at b) s words words₁
+      stored′ = rw (f .kept .below regs-word (omega arith), f .kept .below slots-word (omega arith), ← e) stored
 
   -- all are
   pub filled-all : getD words₀ blocks-word 0 ≤ b → Tables rule (sheet-of words₀) words (before rule (sheet-of words₀))
@@ -83,15 +82,15 @@ module _ {rule : Rule} {words₀ words : List ℕ} {b : ℕ} (ready : Ready word
 pub begun : {rule : Rule} {words₀ words words′ queue queue′ : List ℕ} {ring : Ring} {s : List (List ℕ)} → Ready words₀ → RunKept words₀ words
     → Tables rule (sheet-of words₀) words (before rule (sheet-of words₀))
     → Entered (getD words₀ entry-word 0) s words words′
-    → ((S : Sheet) → S .regs ≡ getD words₀ regs-word 0 → S .slots ≤ 32 → state-of (counts-of S) s ≡ entry-state rule S)
+    → ((counts : List ℕ) → RowsFit counts → getD counts 0 0 ≡ getD words₀ regs-word 0 → state-of counts s ≡ entry-rows rule counts)
     → Appended queue (record { head = 0; count = 0 }) (getD words₀ entry-word 0) queue′ ring
     → Begins rule words₀ queue words′ queue′ ring
-unfolding begin sheet-of
+unfolding begin sheet-of entry-state counts-of
 begun {rule} {words₀} {queue = queue} ready kept tables entered first app = record {
   kept = kept-then _ _ kept (entered .kept) (omega arith) (omega arith) (omega arith) (omega arith);
   same-length = app .same-length;
   stands = record {
-    tables = rw (first (sheet-of words₀) refl (narrow (sheet-here ready) .1 .0)) at (entered .tables rule (sheet-of words₀) _ tables);
+    tables = rw (first (counts-of (sheet-of words₀)) (rows-fit (sheet-here ready)) refl) at (entered .tables rule (sheet-of words₀) _ tables);
     sound = app .sound;
     waiting = app .holds ∙ ap (λ (l : List ℕ). l ++ (getD words₀ entry-word 0 ∷ [])) (none-held queue 0);
   };

@@ -6,11 +6,10 @@ use mathlib.Core.Option.{Option, none, some}
 use Prim.Native.Nat.{ℕ}
 use Rattle.paper.specs.Sheet.{Sheet}
 use Rattle.paper.specs.Cells.{pick}
-use Rattle.paper.specs.Steps.{State}
+use Rattle.paper.specs.Steps.{State, counts-of}
 use Rattle.paper.specs.Runs.{Run, store, push-at, push, meet-states, state-same, flow}
 use Rattle.paper.specs.declared.Rule.{Rule}
 use Rattle.cells.specs.States.{state-of}
-use Rattle.runs.specs.Held.{counts-of}
 use Rattle.runs.specs.Queue.{Appended}
 use Rattle.runs.specs.Table.{joined, arrives, Came}
 use Rattle.runs.specs.Stands.{Moved}

@@ -12,33 +12,18 @@ use Rattle.lists.specs.Region.{region, same-region}
 use Rattle.lists.specs.Kept.{Kept, kept-wider, kept-set, kept-then}
 use Rattle.lists.specs.Split.{by-order}
 use Rattle.paper.specs.Sheet.{Sheet}
-use Rattle.paper.specs.Steps.{State}
+use Rattle.paper.specs.Steps.{State, counts-of}
 use Rattle.paper.specs.Runs.{update, meet-states, state-same, entered}
 use Rattle.paper.specs.declared.Rule.{Rule}
 use Rattle.paper.specs.Limits.{max-blocks}
-use Rattle.layout.specs.Layout.{regs-word, slots-word, blocks-word, row-words, state-words, state-at, mark-at}
+use Rattle.layout.specs.Layout.{regs-word, slots-word, blocks-word, state-words, state-at, mark-at}
 use Rattle.walks.specs.Choices.{pick-yes, pick-no, update-same, update-other}
-use Rattle.cells.specs.Packed.{cell-of}
-use Rattle.cells.specs.States.{cells-of, state-of, rows-at, stored-state, MetWith, Stored}
-use Rattle.sheet.specs.Loaded.{sheet-of}
-use Rattle.runs.specs.Held.{RunKept, counts-of, held-state}
+use Rattle.cells.specs.States.{state-of, stored-state, RowsFit, MetWith, Stored}
+use Rattle.cells.specs.Laws.{stored-stays}
+use Rattle.sheet.specs.Loaded.{sheet-of, counts-in}
+use Rattle.runs.specs.Held.{RunKept, held-state}
 use Rattle.runs.specs.Sheets.{sheet-stays, loaded-stays}
 use Rattle.runs.specs.Table.{Ready, Holds, mark-of, unmarked, Tabled, Tables, joined, arrives, Came, Entered}
-
--- no row has more cells than words
-abbrev Narrow : List ℕ → Type 0
-Narrow [] = Unit {0}
-Narrow (n ∷ counts) = (n ≤ row-words) × Narrow counts
-
--- a state whose words stay
-stored-stays : (words words′ counts : List ℕ) (at : ℕ) → length words′ ≡ length words → Narrow counts → at + length counts * row-words ≤ length words
-    → ((i : ℕ) → at ≤ i → i < at + length counts * row-words → getD words′ i 0 ≡ getD words i 0) → stored-state counts at words′ ≡ stored-state counts at words
-unfolding stored-state state-of rows-at cells-of region
-stored-stays words words′ [] at e narrow fits same = refl
-stored-stays words words′ (n ∷ counts) at e narrow fits same =
-    ap₂ _∷_
-    (ap (map cell-of) (unfold region in same-region at n words words′ (omega arith) e (λ k h. same (at + k) (omega arith) (omega arith))))
-    (stored-stays words words′ counts (at + row-words) e (narrow .1) (omega arith) (λ i h l. same i (omega arith) (omega arith)))
 
 -- only block b's words change
 pub record Alone (b : ℕ) (words words′ : List ℕ) : Type 0 where
@@ -63,21 +48,25 @@ module _ {words words₁ : List ℕ} (b : ℕ) (h : b < max-blocks) (kept : Kept
     marks = λ k l d. getD-set-other words₁ (mark-at b) (mark-at k) v 0 (λ e. d (omega arith)) ∙ alone-state .marks k l d;
   }
 
+-- the counts that the words have fit a state
+pub counts-fit : {words : List ℕ} (counts : List ℕ) → Ready words → counts ≡ counts-in words → RowsFit counts
+counts-fit counts ready e = subst (λ (counts : List ℕ). RowsFit counts) (sym e) (ready .loaded .bounds .regs, (ready .loaded .bounds .slots, tt))
+
 -- the counts of a sheet, as its words have them
 module _ {S : Sheet} {words : List ℕ} (sheet : Holds S words) where
   pub blocks-are : S .blocks ≡ getD words blocks-word 0
   unfolding sheet-of
   blocks-are = ap (λ (s : Sheet). s .blocks) (sym (sheet .is))
 
-  counts-are : counts-of S ≡ getD words regs-word 0 ∷ getD words slots-word 0 ∷ []
-  unfolding sheet-of
+  counts-are : counts-of S ≡ counts-in words
+  unfolding sheet-of counts-of
   counts-are = ap counts-of (sym (sheet .is))
 
   pub few-blocks : S .blocks ≤ max-blocks
   few-blocks = rw blocks-are (sheet .ready .loaded .bounds .blocks)
 
-  pub narrow : Narrow (counts-of S)
-  narrow = subst Narrow (sym counts-are) (sheet .ready .loaded .bounds .regs, (sheet .ready .loaded .bounds .slots, tt))
+  pub rows-fit : RowsFit (counts-of S)
+  rows-fit = counts-fit (counts-of S) (sheet .ready) counts-are
 
 pub ready-stays : {words words′ : List ℕ} → RunKept words words′ → Ready words → Ready words′
 ready-stays kept r = record { loaded = loaded-stays kept (r .loaded); room = rw (kept .same-length) (r .room) }
@@ -95,7 +84,7 @@ module _ {rule : Rule} {S : Sheet} {words words′ : List ℕ} {b : ℕ} (sheet 
       states : (k : ℕ) → k < m → Dec (k ≡ b) → held-state S words′ k ≡ entered rule S (table′ k)
       states k h (yes e) = rw e state
       states k h (no d) =
-          stored-stays words words′ (counts-of S) (state-at k) (alone .kept .same-length) (narrow sheet) (omega (arith, sheet .ready .room)) (alone .states k (omega arith) d)
+          stored-stays (counts-of S) (state-at k) words words′ (alone .kept .same-length) (rows-fit sheet) (omega (arith, sheet .ready .room)) (alone .states k (omega arith) d)
           ∙ t .states k (other k h d .0)
           ∙ ap (entered rule S) (sym (other k h d .1))
 
@@ -105,10 +94,10 @@ module _ {rule : Rule} {S : Sheet} {words words′ : List ℕ} {b : ℕ} (sheet 
 
 -- a state that is stored in block b's words, and then a mark
 module _ {S : Sheet} {words words₁ : List ℕ} {s : List (List ℕ)} (sheet : Holds S words) (b v : ℕ) (h : b < max-blocks)
-    (stored : Stored (getD words regs-word 0 ∷ getD words slots-word 0 ∷ []) (state-at b) s words words₁) where
+    (stored : Stored (counts-in words) (state-at b) s words words₁) where
   pub state-marked : held-state S (set words₁ (mark-at b) v) b ≡ state-of (counts-of S) s
   state-marked =
-      stored-stays words₁ (set words₁ (mark-at b) v) (counts-of S) (state-at b) (length-set words₁ (mark-at b) v) (narrow sheet) (omega (arith, stored .kept .same-length, sheet .ready .room))
+      stored-stays (counts-of S) (state-at b) words₁ (set words₁ (mark-at b) v) (length-set words₁ (mark-at b) v) (rows-fit sheet) (omega (arith, stored .kept .same-length, sheet .ready .room))
       (λ i lo hi. getD-set-other words₁ (mark-at b) i v 0 (λ e. omega arith))
       ∙ rw (counts-are sheet) (stored .meaning)
 
@@ -147,7 +136,7 @@ module _ (rule : Rule) (a x : State) where
 
 module _ {words : List ℕ} (b : ℕ) (s : List (List ℕ)) (h : b < getD words blocks-word 0) where
   -- a state is stored in block b's words, and its mark set
-  pub entered-is : {words₁ : List ℕ} → Ready words → Stored (getD words regs-word 0 ∷ getD words slots-word 0 ∷ []) (state-at b) s words words₁ → Entered b s words (set words₁ (mark-at b) 1)
+  pub entered-is : {words₁ : List ℕ} → Ready words → Stored (counts-in words) (state-at b) s words words₁ → Entered b s words (set words₁ (mark-at b) 1)
   entered-is {words₁} ready stored = record { kept = alone .kept; tables = tables }
     where
       small : b < max-blocks
@@ -183,7 +172,7 @@ module _ {words : List ℕ} (b : ℕ) (s : List (List ℕ)) (h : b < getD words 
       unfolding mark-of
       set-there = t .tabled .marks b (omega (arith, blocks-are (t .sheet))) ∙ ap mark-of some-there
 
-    pub came-again : {words′ : List ℕ} (new : Bool) → MetWith rule (getD words regs-word 0 ∷ getD words slots-word 0 ∷ []) (state-at b) s words words′ new → Came rule b s words words′ new
+    pub came-again : {words′ : List ℕ} (new : Bool) → MetWith rule (counts-in words) (state-at b) s words words′ new → Came rule b s words words′ new
     unfolding joined
     came-again {words′} true met = record {
       kept = alone .kept;

@@ -6,27 +6,29 @@ use Prim.Native.Nat.{ℕ, _<_}
 use lib.ListN.{getD}
 use Rattle.paper.specs.Text.{Name}
 use Rattle.paper.specs.Sheet.{Sheet, steps-of, reference-typed}
-use Rattle.paper.specs.Steps.{effects}
+use Rattle.paper.specs.Steps.{effects, counts-of}
 use Rattle.paper.specs.declared.Rule.{Rule}
 use Rattle.layout.specs.Layout.{regs-word, slots-word, blocks-word, state-at}
-use Rattle.cells.specs.States.{state-of, stored-state}
-use Rattle.steps.specs.Actions.{steps-at, HonestSteps}
-use Rattle.sheet.specs.Loaded.{first-step, step-total, sheet-of}
-use Rattle.runs.specs.Held.{counts-of, held-state}
+use Rattle.cells.specs.States.{state-of, stored-state, RowsFit}
+use Rattle.steps.specs.Actions.{steps-at, Runnable, HonestSteps}
+use Rattle.sheet.specs.Loaded.{first-step, step-total, sheet-of, counts-in}
+use Rattle.runs.specs.Held.{held-state}
 use Rattle.sheet.specs.Blocks.{steps-in-words}
 use Rattle.runs.specs.Allowed.{loaded-honest}
 use Rattle.runs.specs.Table.{Ready, Through}
 
 pub through-is : {rule : Rule} {words : List ℕ} {b : ℕ} (s : List (List ℕ)) {t : List (List ℕ)} → Ready words → b < getD words blocks-word 0
-    → state-of (getD words regs-word 0 ∷ getD words slots-word 0 ∷ []) s ≡ stored-state (getD words regs-word 0 ∷ getD words slots-word 0 ∷ []) (state-at b) words
-    → ((ref : Name → Bool) → HonestSteps ref words (first-step words b) (step-total words b)
-    → state-of (getD words regs-word 0 ∷ getD words slots-word 0 ∷ []) t ≡ effects rule ref (steps-at words (first-step words b) (step-total words b)) (state-of (getD words regs-word 0 ∷ getD words slots-word 0 ∷ []) s))
+    → ((counts : List ℕ) → RowsFit counts → state-of counts s ≡ stored-state counts (state-at b) words)
+    → ((counts : List ℕ) → Runnable counts words (first-step words b) (step-total words b) → (ref : Name → Bool)
+    → HonestSteps ref words (first-step words b) (step-total words b)
+    → state-of counts t ≡ effects rule ref (steps-at words (first-step words b) (step-total words b)) (state-of counts s))
+    → Runnable (counts-in words) words (first-step words b) (step-total words b)
     → Through rule b words t
-through-is {rule} {words} {b} s {t} ready h loaded ran = record { is = λ S e. subst (λ (S : Sheet). state-of (counts-of S) t ≡ effects rule (reference-typed S) (steps-of S b) (held-state S words b)) (e .is) here }
+through-is {rule} {words} {b} s {t} ready h loaded ran runs = record { is = λ S e. subst (λ (S : Sheet). state-of (counts-of S) t ≡ effects rule (reference-typed S) (steps-of S b) (held-state S words b)) (e .is) here }
   where
     here : state-of (counts-of (sheet-of words)) t ≡ effects rule (reference-typed (sheet-of words)) (steps-of (sheet-of words) b) (held-state (sheet-of words) words b)
     here =
-        unfold sheet-of in
-        (ran (reference-typed (sheet-of words)) (loaded-honest (ready .loaded) b h)
-        ∙ ap (effects rule (reference-typed (sheet-of words)) (steps-at words (first-step words b) (step-total words b))) loaded
+        unfold sheet-of counts-of in
+        (ran (counts-in words) runs (reference-typed (sheet-of words)) (loaded-honest (ready .loaded) b h)
+        ∙ ap (effects rule (reference-typed (sheet-of words)) (steps-at words (first-step words b) (step-total words b))) (loaded (counts-in words) (runs .rows-fit))
         ∙ ap (λ xs. effects rule (reference-typed (sheet-of words)) xs (held-state (sheet-of words) words b)) (sym (steps-in-words words b (rw (ready .loaded .whole) h))))

@@ -12,21 +12,21 @@ use Rattle.lists.specs.Grown.{region-more, region-joined}
 use Rattle.lists.specs.Regions.{region-cons, region-none}
 use Rattle.lists.specs.Kept.{kept-same, kept-then}
 use Rattle.paper.specs.Sheet.{Sheet, succs-of}
-use Rattle.paper.specs.Steps.{State}
+use Rattle.paper.specs.Steps.{State, counts-of, total, cell-count}
 use Rattle.paper.specs.Runs.{Run, push, spread, step, flow, visit-bound}
 use Rattle.paper.specs.Report.{missing-allocations}
 use Rattle.paper.specs.Limits.{max-blocks, max-succs, queue-size}
 use Rattle.paper.specs.Walks.{In, here}
 use Rattle.paper.specs.declared.Rule.{Rule}
 use Rattle.paper.specs.declared.Rule.the-variants.{Old, House}
-use Rattle.layout.specs.Layout.{blocks-word, opened-word, succ-base, state-base, all-words, mark-at}
+use Rattle.layout.specs.Layout.{blocks-word, opened-word, succ-base, state-base, all-words, mark-at, row-widths, state-words}
 use Rattle.walks.specs.Passing.{PassedOn, Passing, passing-done, spread-covered}
 use Rattle.walks.specs.Running.{step-visit, spread-last}
 use Rattle.walks.specs.Loop.{standing-room, standing-below, standing-visited, standing-inside}
-use Rattle.cells.specs.States.{state-of}
+use Rattle.cells.specs.States.{state-of, Narrow}
 use Rattle.sheet.specs.Loaded.{succ-total, sheet-of, BlockBounds}
 use Rattle.sheet.specs.Blocks.{succs-in-words}
-use Rattle.runs.specs.Held.{counts-of, held-state}
+use Rattle.runs.specs.Held.{held-state}
 use Rattle.runs.specs.Queue.{held, Sound, Taken}
 use Rattle.runs.specs.Table.{Ready, Holds, mark-of, arrives, Through}
 use Rattle.runs.specs.Stands.{Stands, Continues, Moved}
@@ -34,7 +34,7 @@ use Rattle.runs.specs.declared.Ring.{Ring}
 use Rattle.runs.specs.Settled.{Settled, unsettled, Unsettled, Visited}
 use Rattle.runs.proofs.LawsQueue.{length-held}
 use Rattle.runs.proofs.LawsSettled.{push-passing, passing-first}
-use Rattle.runs.proofs.LawsTable.{marked, blocks-are, few-blocks, narrow, ready-stays}
+use Rattle.runs.proofs.LawsTable.{marked, blocks-are, few-blocks, rows-fit, ready-stays}
 
 -- inside a visit, whose block has its successors from `from` on: the first i have been served
 pub record Serving (rule : Rule) (words₀ queue₀ : List ℕ) (ring₀ : Ring) (s : List (List ℕ)) (from total : ℕ) (words queue : List ℕ) (ring : Ring) (i : ℕ) : Type 0 where
@@ -93,17 +93,25 @@ settling-more {rule} {words₀} {s = s} {from = from} {total = total} {settled =
       rw (region-more from i words₀ (omega arith), spread-last (flow rule S) (region from i words₀) b x r, bytes) (push-passing rule S b x _ settled at q);
 }
 
+-- no state has more cells than words
+few-total : (widths counts : List ℕ) → Narrow widths counts → total counts ≤ total widths
+unfolding total
+few-total [] [] h = omega arith
+few-total (width ∷ widths) (n ∷ counts) h = omega (arith, h .0, few-total widths counts (h .1))
+
+few-cells : {S : Sheet} {words : List ℕ} → Holds S words → cell-count S ≤ state-words
+unfolding cell-count total
+few-cells {S} h = few-total row-widths (counts-of S) (rows-fit h)
+
 -- the visit bound of a loaded sheet fits the queue
 pub bound-fits : (rule : Rule) {S : Sheet} {words : List ℕ} → Holds S words → visit-bound rule S ≤ queue-size
 unfolding visit-bound
 bound-fits Old {S} h =
-    let e : S .blocks * (4 * (S .regs + S .slots)) ≤ max-blocks * (4 * (S .regs + S .slots)) = mul-le-mul-right _ (few-blocks h) in
-    let n = narrow h in
-    omega (arith, n .0, n .1 .0)
+    let e : S .blocks * (4 * cell-count S) ≤ max-blocks * (4 * cell-count S) = mul-le-mul-right _ (few-blocks h) in
+    omega (arith, few-cells h)
 bound-fits House {S} h =
-    let e : S .blocks * (1 + 3 * (S .regs + S .slots)) ≤ max-blocks * (1 + 3 * (S .regs + S .slots)) = mul-le-mul-right _ (few-blocks h) in
-    let n = narrow h in
-    omega (arith, n .0, n .1 .0)
+    let e : S .blocks * (1 + 3 * cell-count S) ≤ max-blocks * (1 + 3 * cell-count S) = mul-le-mul-right _ (few-blocks h) in
+    omega (arith, few-cells h)
 
 -- where the visited block's numbers stand, and how many successors it has
 pub record Visiting (words : List ℕ) (b : ℕ) : Type 0 where

@@ -14,7 +14,7 @@ use Rattle.layout.specs.Layout.{regs-word, slots-word, blocks-word, opened-word
 use Rattle.walks.specs.Choices.{in-nil}
 use Rattle.walks.specs.Bounds.{Closed}
 use Rattle.steps.specs.Actions.{Runnable, HonestSteps}
-use Rattle.sheet.specs.Loaded.{first-step, step-total, succ-total, sheet-of, Loaded}
+use Rattle.sheet.specs.Loaded.{first-step, step-total, succ-total, sheet-of, Loaded, counts-in}
 use Rattle.sheet.specs.Blocks.{succs-in-words, succs-beyond}
 use Rattle.sheet.specs.Allocated.{opened-block, in-range-at, honest-at}
 
@@ -45,10 +45,9 @@ loaded-closed {words} L = record { entry-in = L .bounds .entry; succs-in = λ b 
 
 -- the steps of a block of a loaded sheet
 module _ {words : List ℕ} (L : Loaded words) (b : ℕ) (h : b < getD words blocks-word 0) where
-  pub loaded-runnable : missing-allocations (sheet-of words) ≡ [] → Runnable (getD words regs-word 0) (getD words slots-word 0) words (first-step words b) (step-total words b)
+  pub loaded-runnable : missing-allocations (sheet-of words) ≡ [] → Runnable (counts-in words) words (first-step words b) (step-total words b)
   loaded-runnable e = record {
-    regs-fit = L .bounds .regs;
-    slots-fit = L .bounds .slots;
+    rows-fit = (L .bounds .regs, (L .bounds .slots, tt));
     steps-fit = omega (arith, L .bounds .each-block b (opened-block L b h) .steps, L .bounds .steps);
     words-fit = L .bounds .size;
     in-range = λ k hk lk. let z : first-step words b + (k - first-step words b) ≡ k = omega arith in rw z at (in-range-at L b h e (k - first-step words b) (omega arith));

@@ -6,12 +6,12 @@ use mathlib.Core.List.{List}
 use Prim.Native.Nat.{ℕ}
 use lib.ListN.{length, getD, set}
 use Rattle.paper.specs.Sheet.{Sheet}
-use Rattle.paper.specs.Steps.{State}
+use Rattle.paper.specs.Steps.{State, counts-of}
 use Rattle.paper.specs.Runs.{Run, step, flow}
 use Rattle.paper.specs.declared.Rule.{Rule}
 use Rattle.walks.specs.Passing.{PassedOn}
 use Rattle.cells.specs.States.{state-of}
-use Rattle.runs.specs.Held.{RunKept, counts-of}
+use Rattle.runs.specs.Held.{RunKept}
 use Rattle.runs.specs.Table.{arrives}
 use Rattle.runs.specs.Stands.{Stands}
 use Rattle.runs.specs.declared.Ring.{Ring}

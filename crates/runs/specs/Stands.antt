@@ -6,7 +6,7 @@ use Prim.Native.Nat.{ℕ, _<_}
 use native.Mathlib.Omega.{arith}
 use lib.ListN.{length, getD}
 use Rattle.paper.specs.Sheet.{Sheet}
-use Rattle.paper.specs.Steps.{State}
+use Rattle.paper.specs.Steps.{State, counts-of}
 use Rattle.paper.specs.Runs.{Run, begin, analysis, checked-from}
 use Rattle.paper.specs.Report.{missing-allocations}
 use Rattle.paper.specs.declared.Rule.{Rule}
@@ -14,7 +14,7 @@ use Rattle.layout.specs.Layout.{regs-word, slots-word, blocks-word, state-at, m
 use Rattle.walks.specs.Bounds.{Closed}
 use Rattle.walks.specs.Loop.{Standing}
 use Rattle.cells.specs.States.{stored-state}
-use Rattle.sheet.specs.Loaded.{sheet-of, Loaded}
+use Rattle.sheet.specs.Loaded.{sheet-of, Loaded, counts-in}
 use Rattle.runs.specs.Held.{RunKept, held-state}
 use Rattle.runs.specs.Queue.{held, Sound}
 use Rattle.runs.specs.Table.{mark-of, Tables}
@@ -69,6 +69,6 @@ module _ {rule : Rule} {words queue words′ queue′ : List ℕ} (loaded : Load
   analysed-loaded = loaded-stays (a .kept) loaded
 
   pub analysed-state : (b : ℕ) → b < getD words blocks-word 0
-      → stored-state (getD words′ regs-word 0 ∷ getD words′ slots-word 0 ∷ []) (state-at b) words′ ≡ checked-from rule (sheet-of words) b
-  unfolding sheet-of
+      → stored-state (counts-in words′) (state-at b) words′ ≡ checked-from rule (sheet-of words) b
+  unfolding sheet-of counts-of
   analysed-state b h = rw (a .kept .below regs-word (omega arith), a .kept .below slots-word (omega arith)) (a .states b h)

@@ -9,13 +9,13 @@ use native.Mathlib.Omega.{arith}
 use lib.ListN.{length, getD}
 use Rattle.paper.specs.Sheet.{Sheet, steps-of, reference-typed}
 use Rattle.paper.specs.Cells.{pick}
-use Rattle.paper.specs.Steps.{State, effects}
+use Rattle.paper.specs.Steps.{State, effects, counts-of}
 use Rattle.paper.specs.Runs.{update, meet-states, state-same, entered}
 use Rattle.paper.specs.declared.Rule.{Rule}
 use Rattle.layout.specs.Layout.{mark-at, run-words}
 use Rattle.cells.specs.States.{state-of}
 use Rattle.sheet.specs.Loaded.{sheet-of, Loaded}
-use Rattle.runs.specs.Held.{RunKept, counts-of, held-state}
+use Rattle.runs.specs.Held.{RunKept, held-state}
 
 -- the words hold a loaded sheet, and have room for its run
 pub record Ready (words : List ℕ) : Type 0 where

@@ -11,7 +11,8 @@ ghost use Rattle.layout.specs.Layout.{blocks-word, run-words};
 ghost use Rattle.cells.specs.Meeting.{meet-table};
 ghost use Rattle.cells.specs.States.{state-of};
 ghost use Rattle.sheet.specs.Loaded.{sheet-of, Loaded};
-ghost use Rattle.runs.specs.Held.{RunKept, counts-of};
+ghost use Rattle.paper.specs.Steps.{counts-of};
+ghost use Rattle.runs.specs.Held.{RunKept};
 ghost use Rattle.runs.specs.Queue.{place, Sound, Appended, Taken};
 ghost use Rattle.runs.specs.Table.{Ready, mark-of, Tables, Came, Entered, Through};
 ghost use Rattle.runs.specs.Stands.{Begins, Continues, Moved, Analysed};
@@ -25,7 +26,6 @@ use layout::MARK_BASE;
 use layout::MAX_BLOCKS;
 use layout::QUEUE_SIZE;
 use layout::REGS_WORD;
-use layout::SLOTS_WORD;
 use layout::STATE_BASE;
 use layout::STATE_WORDS;
 use layout::STEP_TOTAL_WORD;
@@ -95,9 +95,8 @@ fn enter(words: &mut [u16], b: usize, s: State)
     requires { ⌜ Ready (now words) × (b < getD (now words) blocks-word 0) ⌝ }
     ensures { λ r. ⌜ Entered b s (now (words .entry)) (now (words .exit)) ⌝ }
 {
-    let regs = words[REGS_WORD] as usize;
-    let slots = words[SLOTS_WORD] as usize;
-    cells::store(words, STATE_BASE + b * STATE_WORDS, s, regs, slots);
+    let counts = sheet::row_counts(words);
+    cells::store(words, STATE_BASE + b * STATE_WORDS, s, counts);
     words[MARK_BASE + b] = 1;
 }
 
@@ -106,13 +105,12 @@ fn begin_blocks(rule: Rule, words: &mut [u16])
     requires { ⌜ Ready (now words) ⌝ }
     ensures { λ r. ⌜ RunKept (now (words .entry)) (now (words .exit)) × Tables rule (sheet-of (now (words .entry))) (now (words .exit)) (paper-runs.before rule (sheet-of (now (words .entry)))) ⌝ }
 {
-    let regs = words[REGS_WORD] as usize;
-    let slots = words[SLOTS_WORD] as usize;
+    let counts = sheet::row_counts(words);
     let blocks = words[BLOCKS_WORD] as usize;
     let s = cells::unreached_state(rule);
     let mut b = 0;
     while b < blocks {
-        cells::store(words, STATE_BASE + b * STATE_WORDS, s, regs, slots);
+        cells::store(words, STATE_BASE + b * STATE_WORDS, s, counts);
         words[MARK_BASE + b] = first_mark(rule);
         b += 1;
     }
@@ -139,17 +137,8 @@ fn join(table: &[[[u8; 4]; 4]; 2], rule: Rule, words: &mut [u16], b: usize, s: S
         enter(words, b, s);
         return true;
     }
-    let regs = words[REGS_WORD] as usize;
-    let slots = words[SLOTS_WORD] as usize;
-    cells::meet_with(
-        table,
-        rule,
-        words,
-        STATE_BASE + b * STATE_WORDS,
-        s,
-        regs,
-        slots,
-    )
+    let counts = sheet::row_counts(words);
+    cells::meet_with(table, rule, words, STATE_BASE + b * STATE_WORDS, s, counts)
 }
 
 // A state comes to block b, which waits and is settled no more where that is new.
@@ -179,13 +168,11 @@ fn through(rule: Rule, words: &[u16], b: usize) -> State
     requires { ⌜ Ready (now words) × (missing-allocations (sheet-of (now words)) ≡ []) × (b < getD (now words) blocks-word 0) ⌝ }
     ensures { λ r. ⌜ Through rule b (now (words .entry)) r ⌝ }
 {
-    let regs = words[REGS_WORD] as usize;
-    let slots = words[SLOTS_WORD] as usize;
-    let s = cells::load(words, STATE_BASE + b * STATE_WORDS, regs, slots);
+    let s = cells::load(words, STATE_BASE + b * STATE_WORDS);
     let at = BLOCK_BASE + b * BLOCK_WORDS;
     let first = words[at] as usize;
     let count = words[at + STEP_TOTAL_WORD] as usize;
-    steps::effects(words, rule, s, regs, slots, first, count)
+    steps::effects(words, rule, s, first, count)
 }
 
 // One visit: the block at the head is taken, its steps are run, and each successor in listed order gets the result. A settled block

@@ -274,7 +274,7 @@ module _ (l m : List ℕ) (begun : Begun l) (b : ℕ) (last : b + 1 ≡ getD l o
 
   new-step : step-of m (action-at m k) ≡ step-of l action
   unfolding k
-  new-step = rw (w .says) (same-step (step-operands (k + 1)) k (omega arith) action (fits .packs) (room-within _ _ _ l action (fits .ranged)))
+  new-step = rw (w .says) (same-step (step-operands (k + 1)) k (omega arith) action (fits .packs) (room-within _ _ l action (fits .ranged)))
 
   new-bounds : StepBounds m k
   unfolding k
@@ -282,10 +282,10 @@ module _ (l m : List ℕ) (begun : Begun l) (b : ℕ) (last : b + 1 ≡ getD l o
       let regs : getD m regs-word 0 ≡ getD l regs-word 0 = w .head regs-word (omega arith) (λ e. omega arith) in
       let slots : getD m slots-word 0 ≡ getD l slots-word 0 = w .head slots-word (omega arith) (λ e. omega arith) in
       record {
-        ranged = rw (regs, slots, w .says) (same-within (step-operands (k + 1)) k (omega arith) _ _ _ action (fits .packs) (fits .ranged));
+        ranged = rw (regs, slots, w .says) (same-within (step-operands (k + 1)) k (omega arith) _ _ action (fits .packs) (fits .ranged));
         honest = rw (w .says)
             (same-honest (step-operands (k + 1)) k (omega arith) _ _ (same-references (begun .bounds) step-head step-steps) action (fits .packs)
-            (room-within _ _ _ l action (fits .ranged)) (fits .honest));
+            (room-within _ _ l action (fits .ranged)) (fits .honest));
       }
 
   -- the step stands behind those of the last block

@@ -9,7 +9,7 @@ use Rattle.paper.specs.Report.{missing-names, names-lines, missing-from, missin
 use Rattle.layout.specs.Layout.{regs-word, slots-word, blocks-word, opened-word, steps-word}
 use Rattle.steps.specs.Actions.{step-of, action-at, steps-at, InRange, Honest}
 use Rattle.steps.specs.Laws.{both-none, allocated}
-use Rattle.sheet.specs.Loaded.{first-step, step-total, sheet-of, Loaded}
+use Rattle.sheet.specs.Loaded.{first-step, step-total, counts-in, sheet-of, Loaded}
 use Rattle.sheet.specs.Blocks.{steps-in-words}
 
 block-none : (S : Sheet) (b i n : ℕ) → i < n → missing-blocks S b n ≡ [] → missing-from (b + i) 0 (steps-of S (b + i)) ≡ []
@@ -36,12 +36,12 @@ module _ {words : List ℕ} (L : Loaded words) (b : ℕ) (h : b < getD words blo
   step-below place hp = omega (arith, L .bounds .each-block b opened-block .steps)
 
   pub in-range-at : missing-allocations (sheet-of words) ≡ [] → (place : ℕ) → place < step-total words b
-      → InRange (getD words regs-word 0) (getD words slots-word 0) words (action-at words (first-step words b + place))
+      → InRange (counts-in words) words (action-at words (first-step words b + place))
   unfolding missing-allocations sheet-of
   in-range-at e place hp =
       let z : 0 + b ≡ b = omega arith in
       let none = rw (z, steps-in-words words b opened-block) at (block-none (sheet-of words) 0 b _ h e) in
-      allocated _ _ words _ (L .bounds .each-step (first-step words b + place) (step-below place hp) .ranged)
+      allocated _ words _ (L .bounds .each-step (first-step words b + place) (step-below place hp) .ranged)
       (step-none words b 0 (first-step words b) place (step-total words b) hp none)
 
   pub honest-at : (place : ℕ) → place < step-total words b

@@ -102,7 +102,7 @@ module _ {l m : List ℕ} (bounds : Bounds l) (head : SameHead l m) (steps : Sam
   kept-step : (k : ℕ) → k < getD l steps-word 0 → step-of m (action-at m k) ≡ step-of l (action-at l k)
   kept-step k h =
       rw (same-action steps k h)
-      (same-step (steps .operands) k h (action-at l k) (packs-at l k) (room-within _ _ _ l (action-at l k) (bounds .each-step k h .ranged)))
+      (same-step (steps .operands) k h (action-at l k) (packs-at l k) (room-within _ _ l (action-at l k) (bounds .each-step k h .ranged)))
 
   pub kept-steps : (k n : ℕ) → k + n ≤ getD l steps-word 0 → steps-at m k n ≡ steps-at l k n
   kept-steps k n h = steps-alike l m k n λ i p q. kept-step i (omega arith)
@@ -113,9 +113,9 @@ module _ {l m : List ℕ} (bounds : Bounds l) (head : SameHead l m) (steps : Sam
       let regs : getD m regs-word 0 ≡ getD l regs-word 0 = head .words regs-word (omega arith) (λ q. omega arith) (λ q. omega arith) in
       let slots : getD m slots-word 0 ≡ getD l slots-word 0 = head .words slots-word (omega arith) (λ q. omega arith) (λ q. omega arith) in
       record {
-        ranged = rw (regs, slots, same-action steps k h) (same-within (steps .operands) k h _ _ _ (action-at l k) (packs-at l k) (old .ranged));
+        ranged = rw (regs, slots, same-action steps k h) (same-within (steps .operands) k h _ _ (action-at l k) (packs-at l k) (old .ranged));
         honest = rw (same-action steps k h)
-            (same-honest (steps .operands) k h _ _ same-references (action-at l k) (packs-at l k) (room-within _ _ _ l (action-at l k) (old .ranged)) (old .honest));
+            (same-honest (steps .operands) k h _ _ same-references (action-at l k) (packs-at l k) (room-within _ _ l (action-at l k) (old .ranged)) (old .honest));
       }
 
   module _ (b : ℕ) (h : b < getD l opened-word 0) (same : SameLinks l m b) where

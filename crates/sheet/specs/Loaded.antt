@@ -23,6 +23,10 @@ step-total words b = getD words (block-base + b * block-words + step-total-word)
 abbrev pub succ-total : List ℕ → ℕ → ℕ
 succ-total words b = getD words (block-base + b * block-words + succ-total-word) 0
 
+-- how many cells each row of a state has
+abbrev pub counts-in : List ℕ → List ℕ
+counts-in words = getD words regs-word 0 ∷ getD words slots-word 0 ∷ []
+
 unfoldable pub block-at : List ℕ → ℕ → Block
 block-at words b = record { succs = region (succ-base b) (succ-total words b) words; steps = steps-at words (first-step words b) (step-total words b) }
 
@@ -59,7 +63,7 @@ pub record BlockBounds (words : List ℕ) (b : ℕ) : Type 0 where
 
 -- a step's numbers keep theirs, and the marks of its operands are those of `T`
 pub record StepBounds (words : List ℕ) (k : ℕ) : Type 0 where
-  pub ranged : Ranged (getD words regs-word 0) (getD words slots-word 0) words (action-at words k)
+  pub ranged : Ranged (counts-in words) words (action-at words k)
   pub honest : Honest (reference-typed (sheet-of words)) words (action-at words k)
 
 -- the bounds of what has been read so far

@@ -17,7 +17,7 @@ use Rattle.steps.specs.Actions.{Ranged, Honest, Packs}
 use Rattle.steps.specs.declared.Action.{Action}
 use Rattle.records.specs.declared.Counts.{Counts}
 use Rattle.records.specs.declared.Place.{Place}
-use Rattle.sheet.specs.Loaded.{first-step, step-total, blocks-at, marked-from, sheet-of, so-far, Bounds, Loaded}
+use Rattle.sheet.specs.Loaded.{first-step, step-total, counts-in, blocks-at, marked-from, sheet-of, so-far, Bounds, Loaded}
 use Rattle.sheet.specs.declared.Lined as Lined
 use Rattle.sheet.specs.declared.Lined.the-variants as lined
 use Rattle.sheet.specs.declared.Loading as Loading
@@ -59,7 +59,7 @@ step-place words = record { misplaced = eqb (getD words opened-word 0) 0; surplu
 -- the action can be the next step
 pub record Fits (words : List ℕ) (action : Action) : Type 0 where
   pub packs : Packs (getD words steps-word 0) action
-  pub ranged : Ranged (getD words regs-word 0) (getD words slots-word 0) words action
+  pub ranged : Ranged (counts-in words) words action
   pub honest : Honest (reference-typed (sheet-of words)) words action
 
 -- the words hold one record more

@@ -11,8 +11,11 @@ ghost use Rattle.paper.specs.Refusals.{function-record, typed-record, block-rec
 ghost use Rattle.layout.specs.Layout.{vregs-word, blocks-word, opened-word, steps-word, least-word, operand-words, all-words};
 ghost use Rattle.fields.specs.Fields.{field-at, line-at, fields-behind};
 ghost use Rattle.records.specs.Records.{Behind, FunctionWithin, BlockWithin};
+ghost use Rattle.cells.specs.States.{row-counts};
 ghost use Rattle.steps.specs.Actions.{step-of};
+ghost use Rattle.sheet.specs.Loaded.{counts-in};
 ghost use Rattle.sheet.specs.Reading.{SheetText, Blank, Begun, Progress, counts-of, step-place, Fits, Stored, LineRead, Load};
+use cells::RowCounts;
 use layout::BEGUN_WORD;
 use layout::BLOCK_BASE;
 use layout::BLOCK_WORDS;
@@ -94,6 +97,17 @@ fn counts(words: &[u16]) -> Counts
         slots: words[SLOTS_WORD] as u32,
         vregs: words[VREGS_WORD] as u32,
         blocks: words[BLOCKS_WORD] as u32,
+    }
+}
+
+// How many cells each row of a state of the sheet has.
+pub fn row_counts(words: &[u16]) -> RowCounts
+    requires { ⌜ all-words ≤ length (now words) ⌝ }
+    ensures { λ r. ⌜ row-counts r ≡ counts-in (now (words .entry)) ⌝ }
+{
+    RowCounts {
+        regs: words[REGS_WORD] as usize,
+        slots: words[SLOTS_WORD] as usize,
     }
 }
 

@@ -13,7 +13,7 @@ use Rattle.paper.specs.declared.Rule.{Rule}
 use Rattle.layout.specs.Layout.{regs-word, slots-word, blocks-word, state-at, mark-at, run-words}
 use Rattle.cells.specs.Packed.{cell-of}
 use Rattle.cells.specs.States.{stored-state}
-use Rattle.sheet.specs.Loaded.{sheet-of, Loaded}
+use Rattle.sheet.specs.Loaded.{sheet-of, Loaded, counts-in}
 use Rattle.runs.specs.Table.{mark-of}
 use Rattle.states.specs.EntryStates.{cell-text, letter-D, entry-states}
 use Rattle.states.specs.declared.Part.{Part}
@@ -53,7 +53,7 @@ pub record HoldsStates (rule : Rule) (words : List ℕ) : Type 0 where
   pub loaded : Loaded words
   pub room : run-words ≤ length words
   pub states : (b : ℕ) → b < getD words blocks-word 0
-      → stored-state (getD words regs-word 0 ∷ getD words slots-word 0 ∷ []) (state-at b) words ≡ checked-from rule (sheet-of words) b
+      → stored-state (counts-in words) (state-at b) words ≡ checked-from rule (sheet-of words) b
   pub marks : (b : ℕ) → b < getD words blocks-word 0 → getD words (mark-at b) 0 ≡ mark-of ((analysis rule (sheet-of words)) .table b)
 
 -- fields, each behind a tab

@@ -4,22 +4,13 @@ use Prim.Native.Nat.{_+_, _*_}
 use native.Mathlib.Omega.{arith}
 use borrow.Author.Needs.{needs}
 use Rattle.layout.specs.Layout.{block-base, block-words}
+use Rattle.steps.specs.Actions.{Runnable}
+use Rattle.steps.specs.Laws.{runnable-most}
+use Rattle.sheet.specs.Loaded.{first-step, step-total, counts-in}
 use Rattle.runs.specs.Allowed.{loaded-runnable}
 use Rattle.runs.proofs.LawsThrough.{through-is}
 use Rattle.runs.proofs.through.Statement.{statement}
 use Rattle.runs.proofs.through.Tie as tie
-
-shared-slice-read-regs : tie.Need-shared-slice-read-regs
-shared-slice-read-regs c = search needs
-
-cast-regs : tie.Need-cast-regs
-cast-regs c = search needs
-
-shared-slice-read-slots : tie.Need-shared-slice-read-slots
-shared-slice-read-slots c = search needs
-
-cast-slots : tie.Need-cast-slots
-cast-slots c = search needs
 
 mul-load : tie.Need-mul-load
 mul-load c = search needs
@@ -43,7 +34,7 @@ shared-slice-read-first : tie.Need-shared-slice-read-first
 shared-slice-read-first c = search needs
 
 cast-first : tie.Need-cast-first
-cast-first c = omega (arith, c .shared-slice-known4 .given (block-base + c .before .before .before .before .before .args .b * block-words))
+cast-first c = omega (arith, c .shared-slice-known2 .given (block-base + c .before .before .before .args .b * block-words))
 
 add-count : tie.Need-add-count
 add-count c = search needs
@@ -55,27 +46,26 @@ shared-slice-read-count : tie.Need-shared-slice-read-count
 shared-slice-read-count c = search needs
 
 cast-count : tie.Need-cast-count
-cast-count c = omega (arith, c .shared-slice-known5 .given (block-base + c .before .before .before .before .before .before .args .b * block-words + 1))
+cast-count c = omega (arith, c .shared-slice-known3 .given (block-base + c .before .before .before .before .args .b * block-words + 1))
+
+-- the steps of the block can be run
+can-run : (c : tie.Start) → let words = c .args .words .now in
+    Runnable (counts-in words) words (first-step words (c .args .b)) (step-total words (c .args .b))
+can-run c = loaded-runnable (c .pre .0 .loaded) _ (c .pre .2) (c .pre .1)
 
 effects-requires : tie.Need-effects-requires
-effects-requires c κs =
-    let a = c .before .before .before .before .before .before in
-    loaded-runnable (a .pre .0 .loaded) _ (a .pre .2) (a .pre .1)
+effects-requires c κs = runnable-most (can-run (c .before .before .before .before))
 
 returns : tie.Need-returns
 returns c =
     let l = c .before .before .before in
-    let a = l .before .before .before .before in
-    through-is _ (a .pre .0) (a .pre .2) (l .load .ensures) (c .effects .ensures)
+    let a = l .before .before in
+    through-is _ (a .pre .0) (a .pre .2) (l .load .ensures) (c .effects .ensures) (can-run a)
 
 pub through-spec : {M : Type 1} → statement M
 through-spec =
     tie.close
     (tie.spec
-    shared-slice-read-regs
-    cast-regs
-    shared-slice-read-slots
-    cast-slots
     mul-load
     add-load
     load-requires
