@@ -9,16 +9,16 @@ use lib.ListN.{length, getD}
 use Rattle.paper.specs.Sheet.{Step, reference-typed}
 use Rattle.paper.specs.Steps.{State, Fault, check, effect, effects}
 use Rattle.paper.specs.Runs.{checked-from}
-use Rattle.paper.specs.Limits.{max-regs, max-slots, max-blocks, max-steps}
+use Rattle.paper.specs.Limits.{max-blocks, max-steps}
 use Rattle.paper.specs.Report.{Line, inst-of, faults-from, block-faults, by-block, find-errors}
 use Rattle.paper.specs.declared.Rule.{Rule}
-use Rattle.layout.specs.Layout.{regs-word, slots-word, blocks-word, opened-word, steps-word, state-base, state-words, all-words}
-use Rattle.cells.specs.States.{state-of, stored-state}
+use Rattle.layout.specs.Layout.{blocks-word, opened-word, steps-word, state-base, state-words, all-words}
+use Rattle.cells.specs.States.{state-of, stored-state, RowsFit}
 use Rattle.steps.specs.Actions.{step-of, action-at, steps-at, RoomFor}
 use Rattle.steps.specs.Laws.{room-within}
 use Rattle.steps.specs.Same.{length-steps, steps-more}
 use Rattle.steps.specs.declared.Action.{Action}
-use Rattle.sheet.specs.Loaded.{first-step, step-total, sheet-of, Loaded}
+use Rattle.sheet.specs.Loaded.{first-step, step-total, sheet-of, Loaded, counts-in}
 use Rattle.sheet.specs.Blocks.{steps-in-words}
 use Rattle.faults.specs.Errors.{line-at}
 use Rattle.faults.specs.Blocks.{by-block-more}
@@ -27,9 +27,6 @@ use Rattle.faults.specs.Reported.{Checkable}
 use Rattle.faults.specs.declared.Pass.{Pass}
 use Rattle.faults.proofs.LawsPasses.{pass-none, pass-then}
 use Rattle.faults.proofs.LawsFaults.{effects-more, faults-more, count-from, count-more, count-below}
-
-abbrev pub counts-of : List ℕ → List ℕ
-counts-of words = getD words regs-word 0 ∷ getD words slots-word 0 ∷ []
 
 -- the first `place` steps of the block, the state behind them, and their faults
 abbrev steps-to : List ℕ → ℕ → ℕ → List Step
@@ -46,7 +43,7 @@ faults-to rule words block place =
 -- they are checked: t is that state, and the pass has been over those faults
 pub record SoFar (pass : Pass) (rule : Rule) (words : List ℕ) (block place : ℕ) (t : List (List ℕ))
     (report₀ : List ℕ) (at : ℕ) (report : List ℕ) (next : ℕ) : Type 0 where
-  pub state : state-of (counts-of words) t ≡ state-behind rule words block place
+  pub state : state-of (counts-in words) t ≡ state-behind rule words block place
   pub passed : AfterPass pass (faults-to rule words block place) report₀ at report next
 
 -- the bounds of a block of a loaded sheet
@@ -56,8 +53,7 @@ pub record BlockWithin (words : List ℕ) (block : ℕ) : Type 0 where
   pub steps : first-step words block + step-total words block ≤ getD words steps-word 0
   pub most : getD words steps-word 0 ≤ max-steps
   pub size : all-words ≤ length words
-  pub regs : getD words regs-word 0 ≤ max-regs
-  pub slots : getD words slots-word 0 ≤ max-slots
+  pub rows : RowsFit (counts-in words)
 
 pub block-within : {words : List ℕ} {block : ℕ} → Loaded words → block < getD words blocks-word 0 → BlockWithin words block
 block-within {words} {block} l h =
@@ -69,18 +65,17 @@ block-within {words} {block} l h =
       steps = b .each-block block o .steps;
       most = b .steps;
       size = b .size;
-      regs = b .regs;
-      slots = b .slots;
+      rows = (b .regs, (b .slots, tt));
     }
 
 -- the operands of a step lie in the words
 pub room-at : {words : List ℕ} → Loaded words → (k : ℕ) → k < getD words steps-word 0 → RoomFor (action-at words k) words
-room-at {words} l k h = room-within _ _ _ words (action-at words k) (l .bounds .each-step k h .ranged)
+room-at {words} l k h = room-within _ _ words (action-at words k) (l .bounds .each-step k h .ranged)
 
 module _ {rule : Rule} {words : List ℕ} {block : ℕ} (C : Checkable rule words) (h : block < getD words blocks-word 0) where
   -- nothing is checked yet
   pub so-far-none : (pass : Pass) (t : List (List ℕ)) (report : List ℕ) (at : ℕ)
-      → state-of (counts-of words) t ≡ stored-state (counts-of words) (state-base + block * state-words) words
+      → state-of (counts-in words) t ≡ stored-state (counts-in words) (state-base + block * state-words) words
       → SoFar pass rule words block 0 t report at report at
   unfolding effects faults-from steps-at
   so-far-none pass t report at e = record { state = e ∙ C .states block h; passed = pass-none pass report at }
@@ -96,8 +91,8 @@ module _ {rule : Rule} {words : List ℕ} {block : ℕ} (C : Checkable rule word
 pub so-far-more : {pass : Pass} {rule : Rule} {words : List ℕ} {block place : ℕ} {t u : List (List ℕ)}
     {report₀ report report′ : List ℕ} {at next next′ : ℕ}
     → (a : Action) (o : Option Fault) (inst : ℕ) → a ≡ action-at words (first-step words block + place)
-    → o ≡ check (step-of words a) (state-of (counts-of words) t) → inst ≡ inst-of (step-of words a)
-    → state-of (counts-of words) u ≡ effect rule (reference-typed (sheet-of words)) (step-of words a) (state-of (counts-of words) t)
+    → o ≡ check (step-of words a) (state-of (counts-in words) t) → inst ≡ inst-of (step-of words a)
+    → state-of (counts-in words) u ≡ effect rule (reference-typed (sheet-of words)) (step-of words a) (state-of (counts-in words) t)
     → SoFar pass rule words block place t report₀ at report next
     → AfterPass pass (line-at (record { block = block; place = place; inst = inst }) o) report next report′ next′
     → SoFar pass rule words block (place + 1) u report₀ at report′ next′

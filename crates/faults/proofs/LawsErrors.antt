@@ -17,6 +17,7 @@ use Rattle.paper.specs.Sheet.{Operand}
 use Rattle.paper.specs.Cells.{Cell, absent, unknown, conflicted, named, pick}
 use Rattle.paper.specs.Steps.{State, slot, get, Fault, first-of, check-use, check-uses, check-change, check-slot, check-slots, check}
 use Rattle.paper.specs.Steps as fault
+use Rattle.layout.specs.Layout.{row-widths}
 use Rattle.steps.specs.Actions.{no-register, register-of, operand-of, operands, step-of, InRange}
 use Rattle.steps.specs.Faults.{fault-of}
 use Rattle.steps.specs.declared.Action.{Action}
@@ -96,7 +97,7 @@ bits-within (suc n) i m s h = go (eqb (m % 2) 1) (bits-within n (i + 1) (m / 2) 
     go true q = first-within _ _ (slot-within i (get s (slot i)) (omega arith)) q
     go false q = q
 
-check-within : (words : List ℕ) (a : Action) (s : State) → InRange max-regs max-slots words a → FaultWithin (check (step-of words a) s)
+check-within : (words : List ℕ) (a : Action) (s : State) → InRange row-widths words a → FaultWithin (check (step-of words a) s)
 unfolding check step-of operands set-bits
 check-within words (Spill k r) s h = tt
 check-within words (Reload r k) s h = tt
@@ -127,6 +128,6 @@ within-of (error.IncorrectValueInSlot k x a) h = h
 within-of (error.StackMapSpecifiesNonRefSlot k) h = h
 within-of (error.StackMapSpecifiesUndefinedSlot k) h = h
 
-pub error-within : (words : List ℕ) (a : Action) (s : State) (e : CheckerError) → InRange max-regs max-slots words a
+pub error-within : (words : List ℕ) (a : Action) (s : State) (e : CheckerError) → InRange row-widths words a
     → fault-of e ≡ check (step-of words a) s → ErrorWithin e
 error-within words a s e h f = within-of e (rw f (check-within words a s h))

@@ -22,8 +22,6 @@ use layout::BLOCK_BASE;
 use layout::BLOCK_WORDS;
 use layout::BLOCKS_WORD;
 use layout::DEFS_FROM;
-use layout::REGS_WORD;
-use layout::SLOTS_WORD;
 use layout::STATE_BASE;
 use layout::STATE_WORDS;
 use layout::STEP_TOTAL_WORD;
@@ -281,12 +279,10 @@ fn check_block(
     requires { ⌜ Checkable rule (now words) × (block < getD (now words) blocks-word 0) × (at + longest-fault-line * step-total (now words) block ≤ length (now report)) ⌝ }
     ensures { λ r. ⌜ AfterPass pass (block-faults rule (sheet-of (now (words .entry))) block) (now (report .entry)) at (now (report .exit)) r × (r ≤ at + longest-fault-line * step-total (now (words .entry)) block) ⌝ }
 {
-    let regs = words[REGS_WORD] as usize;
-    let slots = words[SLOTS_WORD] as usize;
     let base = BLOCK_BASE + block * BLOCK_WORDS;
     let first = words[base] as usize;
     let count = words[base + STEP_TOTAL_WORD] as usize;
-    let mut t = cells::load(words, STATE_BASE + block * STATE_WORDS, regs, slots);
+    let mut t = cells::load(words, STATE_BASE + block * STATE_WORDS);
     let mut next = at;
     let mut place = 0;
     while place < count {
@@ -295,7 +291,7 @@ fn check_block(
         let inst = steps::inst_of(action);
         let position = Position { block, place, inst };
         next = count_or_write(pass, report, next, position, error);
-        let u = steps::update(words, rule, t, regs, slots, action);
+        let u = steps::update(words, rule, t, action);
         t = u;
         place += 1;
     }

@@ -4,25 +4,25 @@ use mathlib.Core.Path.{_≡_, refl}
 use Prim.Native.Nat.{_+_, _*_, _-_, _≤_}
 use native.Mathlib.Omega.{arith}
 use lib.ListN.{length, getD}
-use Rattle.paper.specs.Limits.{max-regs, max-slots, longest-fault-line}
+use Rattle.paper.specs.Limits.{longest-fault-line}
 use Rattle.steps.specs.Laws.{in-range-most}
 use Rattle.sheet.specs.Allocated.{in-range-at, honest-at}
 use Rattle.steps.specs.Actions.{InRange}
-use Rattle.sheet.specs.Loaded.{step-total}
+use Rattle.sheet.specs.Loaded.{step-total, counts-in}
 use Rattle.faults.proofs.LawsErrors.{error-within}
 use Rattle.faults.proofs.LawsBlock.{SoFar, BlockWithin, block-within, so-far-none, so-far-all, so-far-more}
 use borrow.Author.Needs.{needs}
-use Rattle.layout.specs.Layout.{regs-word, slots-word}
+use Rattle.layout.specs.Layout.{row-widths}
 use Rattle.faults.proofs.check_block.Statement.{statement}
 use Rattle.faults.proofs.check_block.Tie as tie
 
 abbrev Inv-loop : tie.InvT-loop
-Inv-loop pass rule words report₀ at block regs slots base first count t₀ next₀ place₀ report t next place =
+Inv-loop pass rule words report₀ at block base first count t₀ next₀ place₀ report t next place =
     (place ≤ count) × (next ≤ at + longest-fault-line * place) × (length report ≡ length report₀)
     × SoFar pass rule words block place t report₀ at report next
 
 abbrev μ-loop : tie.MeasureT-loop
-μ-loop pass rule words report₀ at block regs slots base first count t₀ next₀ place₀ report t next place =
+μ-loop pass rule words report₀ at block base first count t₀ next₀ place₀ report t next place =
     count - place
 
 -- what the function was given, from each place
@@ -32,46 +32,28 @@ start2 c = c .before .before .before
 abbrev start3 : tie.After-shared-slice-known3 Inv-loop μ-loop → tie.Start Inv-loop μ-loop
 start3 c = start2 (c .before)
 
-abbrev start4 : tie.After-shared-slice-known4 Inv-loop μ-loop → tie.Start Inv-loop μ-loop
-start4 c = start3 (c .before)
-
-abbrev start5 : tie.After-shared-slice-known5 Inv-loop μ-loop → tie.Start Inv-loop μ-loop
-start5 c = start4 (c .before)
-
 abbrev start-of : tie.In-loop Inv-loop μ-loop → tie.Start Inv-loop μ-loop
-start-of c = start5 (c .before .before .before)
+start-of c = start3 (c .before .before .before)
 
 within : (c : tie.Start Inv-loop μ-loop) → BlockWithin (c .args .words .now) (c .args .block)
 within c = block-within (c .pre .0 .loaded) (c .pre .1)
 
 -- the step's numbers are below the counts
 ranged : (c : tie.After-action-at Inv-loop μ-loop) → let words = start-of (c .before) .args .words .now in
-    InRange (getD words regs-word 0) (getD words slots-word 0) words (c .action-at .result)
+    InRange (counts-in words) words (c .action-at .result)
 ranged c =
     let s = start-of (c .before) in
     rw (c .action-at .ensures) (in-range-at (s .pre .0 .loaded) _ (s .pre .1) (s .pre .0 .allocated) _ (omega arith))
 
 ranged-most : (c : tie.After-action-at Inv-loop μ-loop)
-    → InRange max-regs max-slots (start-of (c .before) .args .words .now) (c .action-at .result)
+    → InRange row-widths (start-of (c .before) .args .words .now) (c .action-at .result)
 ranged-most c =
     let s = start-of (c .before) in
     let words = s .args .words .now in
     let w = within s in
-    in-range-most (getD words regs-word 0) (getD words slots-word 0) words (c .action-at .result) (w .regs) (w .slots) (ranged c)
+    in-range-most (counts-in words) words (c .action-at .result) (w .rows) (ranged c)
 
 -- the prover's list of needs
-shared-slice-read-regs : tie.Need-shared-slice-read-regs Inv-loop μ-loop
-shared-slice-read-regs c = omega (arith, within (start2 c))
-
-cast-regs : tie.Need-cast-regs Inv-loop μ-loop
-cast-regs c = omega (arith, within (start2 c))
-
-shared-slice-read-slots : tie.Need-shared-slice-read-slots Inv-loop μ-loop
-shared-slice-read-slots c = omega (arith, within (start3 c))
-
-cast-slots : tie.Need-cast-slots Inv-loop μ-loop
-cast-slots c = omega (arith, within (start3 c))
-
 mul-base : tie.Need-mul-base Inv-loop μ-loop
 mul-base c = search needs
 
@@ -82,22 +64,22 @@ mul-first : tie.Need-mul-first Inv-loop μ-loop
 mul-first c = search needs
 
 shared-slice-read-first : tie.Need-shared-slice-read-first Inv-loop μ-loop
-shared-slice-read-first c = omega (arith, within (start4 c))
+shared-slice-read-first c = omega (arith, within (start2 c))
 
 cast-first : tie.Need-cast-first Inv-loop μ-loop
-cast-first c = omega (arith, within (start4 c))
+cast-first c = omega (arith, within (start2 c))
 
 add-count : tie.Need-add-count Inv-loop μ-loop
-add-count c = omega (arith, within (start4 c))
+add-count c = omega (arith, within (start2 c))
 
 mul-count : tie.Need-mul-count Inv-loop μ-loop
 mul-count c = search needs
 
 shared-slice-read-count : tie.Need-shared-slice-read-count Inv-loop μ-loop
-shared-slice-read-count c = omega (arith, within (start5 c))
+shared-slice-read-count c = omega (arith, within (start3 c))
 
 cast-count : tie.Need-cast-count Inv-loop μ-loop
-cast-count c = omega (arith, within (start5 c))
+cast-count c = omega (arith, within (start3 c))
 
 mul-load : tie.Need-mul-load Inv-loop μ-loop
 mul-load c = search needs
@@ -106,12 +88,12 @@ add-load : tie.Need-add-load Inv-loop μ-loop
 add-load c = search needs
 
 load-requires : tie.Need-load-requires Inv-loop μ-loop
-load-requires c κs = let w = within (start5 c) in
-    (omega arith, w .regs, w .slots)
+load-requires c κs = let w = within (start3 c) in
+    omega arith
 
 loop-holds : tie.Need-loop-holds Inv-loop μ-loop
-loop-holds c = let s = start5 (c .before) in
-    (omega arith, omega arith, refl, so-far-none (s .pre .0) (s .pre .1) _ _ _ _ (c .load .ensures))
+loop-holds c = let s = start3 (c .before) in
+    (omega arith, omega arith, refl, so-far-none (s .pre .0) (s .pre .1) _ _ _ _ (c .load .ensures _ (within s .rows)))
 
 add-action-at : tie.Need-add-action-at Inv-loop μ-loop
 add-action-at c = omega (arith, within (start-of c))
@@ -129,13 +111,11 @@ inst-of-requires c κs = search needs
 count-or-write-requires : tie.Need-count-or-write-requires Inv-loop μ-loop
 count-or-write-requires c κs = let a = c .before .before .before in
     let w = within (start-of (a .before)) in
-    let e = error-within _ (a .action-at .result) _ _ (ranged-most a) (c .before .before .check .ensures _ _ (ranged a)) in
+    let e = error-within _ (a .action-at .result) _ _ (ranged-most a) (c .before .before .check .ensures _ (ranged a)) in
     ((omega arith, omega arith), e, omega arith)
 
 update-requires : tie.Need-update-requires Inv-loop μ-loop
-update-requires c κs = let a = c .before .before .before .before .before .before in
-    let w = within (start-of (a .before)) in
-    (w .regs, w .slots, ranged a)
+update-requires c κs = ranged-most (c .before .before .before .before .before .before)
 
 add-place : tie.Need-add-place Inv-loop μ-loop
 add-place c = let n = c .before .before .before in
@@ -153,8 +133,8 @@ loop-again c = let n = c .before .before .before in
       omega arith,
       omega arith,
       omega arith,
-      so-far-more _ _ _ (a .action-at .ensures) (n .before .before .before .check .ensures _ _ (ranged a)) (n .before .before .inst-of .ensures _)
-          (c .update .ensures _ (rw (a .action-at .ensures) (honest-at (s .pre .0 .loaded) _ (s .pre .1) _ (omega arith))))
+      so-far-more _ _ _ (a .action-at .ensures) (n .before .before .before .check .ensures _ (ranged a)) (n .before .before .inst-of .ensures _)
+          (c .update .ensures _ (within s .rows) (ranged a) _ (rw (a .action-at .ensures) (honest-at (s .pre .0 .loaded) _ (s .pre .1) _ (omega arith))))
           (l .loop .inv .3) (n .count-or-write .ensures .0),
     )
 
@@ -162,7 +142,7 @@ same-length : tie.Need-same-length Inv-loop μ-loop
 same-length c = search needs
 
 returns : tie.Need-returns Inv-loop μ-loop
-returns c = let s = start5 (c .before .before .before) in
+returns c = let s = start3 (c .before .before .before) in
     let e : c .before .loop .place ≡ step-total (s .args .words .now) (s .args .block) = omega arith in
     (so-far-all (s .pre .0) (s .pre .1) (rw e at (c .before .loop .inv .3)), omega arith)
 
@@ -172,10 +152,6 @@ check-block-spec =
     (tie.spec
     Inv-loop
     μ-loop
-    shared-slice-read-regs
-    cast-regs
-    shared-slice-read-slots
-    cast-slots
     mul-base
     add-base
     mul-first
