@@ -219,7 +219,7 @@ read-sheet bytes S h =
       visited = visited-are-reached S C;
       house-ends = house-run-ends S C;
       old-ends = old-run-ends S C;
-      typed-ends = Honest.typed-run-ends S C (read-typed bytes S h);
+      typed-ends = rw (cells-counted S) at (Honest.typed-run-ends S C (read-typed bytes S h));
       visits = λ rule. run-visits rule S C;
       shown = Faults.explained S C;
     }
