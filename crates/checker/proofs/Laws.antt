@@ -9,6 +9,7 @@ use Rattle.paper.specs.Text.{Bytes}
 use Rattle.paper.specs.Sheet.{Sheet}
 use Rattle.paper.specs.Limits.{report-size, max-steps}
 use Rattle.paper.specs.Refusals.{Reading, loaded, refused, read, step-count}
+use Rattle.paper.specs.Steps.{counts-of}
 use Rattle.paper.specs.Runs.{checked-from}
 use Rattle.paper.specs.Report.{Line, report-text, missing-allocations, faults}
 use Rattle.paper.specs.Answer.{Said, said-of, said-after, answer, Lent, too-short, zeros, answer-of, report-of, Outcome, outcome-of, outcome}
@@ -56,14 +57,14 @@ module _ {rule : Rule} {words queue words′ queue′ : List ℕ} (loads : Loade
   same-sheet = analysed-sheet loads a
 
   StatesOf : Sheet → Type 0
-  StatesOf S = (b : ℕ) → b < S .blocks → stored-state (S .regs ∷ S .slots ∷ []) (state-at b) words′ ≡ checked-from rule S b
+  StatesOf S = (b : ℕ) → b < S .blocks → stored-state (counts-of S) (state-at b) words′ ≡ checked-from rule S b
 
   states-of : StatesOf (sheet-of words)
   unfolding StatesOf sheet-of
   states-of = a .states
 
   pub checkable : Checkable rule words′
-  unfolding StatesOf sheet-of
+  unfolding StatesOf sheet-of counts-of
   checkable = record {
     loaded = analysed-loaded loads a;
     few = subst (λ (S : Sheet). step-count (S .body) ≤ max-steps) (sym same-sheet) few;
