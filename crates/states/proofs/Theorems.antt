@@ -8,6 +8,7 @@ use Prim.Native.Nat.{ℕ, zero, suc, _+_, _<_}
 use native.Mathlib.Omega.{arith}
 use lib.ListN.{take}
 use Rattle.paper.specs.Text.{Bytes, digits}
+use Rattle.paper.specs.Limits.{report-size}
 use Rattle.paper.specs.Sheet.{Sheet}
 use Rattle.paper.specs.Steps.{State, unreached-state}
 use Rattle.paper.specs.Runs.{flow, analysis, checked-from}
@@ -76,6 +77,7 @@ module _ (bytes : Bytes) (S : Sheet) (h : read bytes ≡ loaded S) where
   states-are-meets m line L = rw (h, m) (same-blocks (block-text House S) line 0 (S .blocks) λ b l. same-lines line L b (omega arith))
 
 -- the call
-pub entry-states-meets : (bytes : Bytes) {before after : Lent} {n : ℕ} (S : Sheet) (h : read bytes ≡ loaded S) → Stated (entry-states House bytes) before after n → too-short before ≡ false
+pub entry-states-meets : (bytes : Bytes) {before after : Lent} {n : ℕ} (S : Sheet) (h : read bytes ≡ loaded S)
+    → Stated report-size (entry-states House bytes) before after n → too-short report-size before ≡ false
     → missing-allocations S ≡ [] → (line : ℕ → Bytes) → LinesOfMeets S line → take n (after .report) ≡ by-block line 0 (S .blocks)
 entry-states-meets bytes S h c long m line L = text-left-by c long ∙ states-are-meets bytes S h m line L
