@@ -38,13 +38,13 @@ pub fn generate(seed: u64, index: u64) -> (usize, Vec<u8>) {
 /// that it has, which mostly fall. The choices come from a copy of the source, which goes on as if there were none.
 pub fn numbered(random: &Random, mut sheet: Sheet) -> Sheet {
     let random = &mut random.clone();
-    match random.below(20) {
-        0 => {}
-        1 => {
-            rise(random, &mut sheet);
-            fall_once(random, &mut sheet);
-        }
-        _ => rise(random, &mut sheet),
+    let way = random.below(20);
+    if way > 0 {
+        let first = any_inst(random);
+        rise(random, &mut sheet, first, true);
+    }
+    if way == 1 {
+        fall_once(random, &mut sheet);
     }
     sheet
 }
@@ -53,13 +53,13 @@ fn insts(sheet: &mut Sheet) -> Vec<&mut u32> {
     sheet.blocks.iter_mut().flat_map(|block| &mut block.steps).filter_map(Step::inst_mut).collect()
 }
 
-/// Insts that rise by a little, stay at times, and now and then leap.
-fn rise(random: &mut Random, sheet: &mut Sheet) {
-    let mut next = any_inst(random);
+/// Insts from a first one on, which rise by a little, stay at times and, where asked, now and then leap.
+fn rise(random: &mut Random, sheet: &mut Sheet, first: u32, leaps: bool) {
+    let mut next = first;
     for inst in insts(sheet) {
         *inst = next;
         next = match random.below(40) {
-            0 => random.within(next as usize, INST_LIMIT as usize) as u32,
+            0 if leaps => random.within(next as usize, INST_LIMIT as usize) as u32,
             1..=8 => next,
             _ => INST_LIMIT.min(next + 1 + random.number(3)),
         };
@@ -734,7 +734,7 @@ pub fn timed(seed: u64, index: u64) -> Sheet {
                 changed(random, sheet)
             }
         };
-        rise(random, &mut sheet);
+        rise(&mut random.clone(), &mut sheet, 0, false);
         let harmless = |sheet| old_faults(sheet, Wrong::Nothing).0.is_empty();
         if is_timed(&sheet) && (kind != "wrong-step" || !harmless(&sheet)) {
             return sheet;
