@@ -1,0 +1,4 @@
+pub mod Laws
+pub mod LawsPart
+pub mod LawsLine
+pub mod LawsRest
