@@ -7,6 +7,9 @@ ghost use Rattle.paper.specs.Text.{fields};
 ghost use Rattle.fields.specs.Fields.{ends-field, line-at};
 ghost use Rattle.paper.specs.Comparison.{same-text, a-number, a-name, a-rule, lettered, fits, well-shaped, bad-line, parting, pieces, compared, longer, rest-place};
 ghost use Rattle.compare.specs.Places.{shape-of, shapes-of, field-place, behind-place, line-place, header-told, Within, LineWithin, HeaderWithin, ComparedWithin, PartOf, Handed, judgement-of};
+ghost use mathlib.Core.List.{[], _∷_};
+ghost use Rattle.lists.specs.Sets.{Wrote};
+ghost use Rattle.compare.specs.Written.{parted-text, malformed-text, compared-text, longest-text, no-room, Told};
 use fields::End;
 use fields::Name;
 use fields::Number;
@@ -35,6 +38,11 @@ const NAME: u8 = 1;
 const REGISTER: u8 = 2;
 
 const SLOT: u8 = 3;
+
+// The longest report that is compared as text, and the room for what is written of two.
+const LONGEST_REPORT: usize = 1048576;
+
+const LONGEST_TEXT: usize = 1048592;
 
 const FIELDS: usize = 8;
 
@@ -365,5 +373,70 @@ pub extern "C" fn itanropen_compare(first: &[u8], second: &[u8]) -> Judgement
             line,
             place: 0,
         },
+    }
+}
+
+// `D line`, at the start of the room.
+fn write_parted(out: &mut [u8], line: u32) -> usize
+    requires { ⌜ 16 ≤ length (now out) ⌝ }
+    ensures { λ r. ⌜ Wrote (now (out .entry)) 0 (parted-text line) (now (out .exit)) r × (r ≤ 16) ⌝ }
+{
+    let a = fields::write_byte(out, 0, b'D');
+    let b = fields::write_before_number(out, a, b'\t', line);
+    fields::write_byte(out, b, b'\n')
+}
+
+// `M side line`.
+fn write_malformed(out: &mut [u8], side: u32, line: u32) -> usize
+    requires { ⌜ 16 ≤ length (now out) ⌝ }
+    ensures { λ r. ⌜ Wrote (now (out .entry)) 0 (malformed-text side line) (now (out .exit)) r × (r ≤ 16) ⌝ }
+{
+    let a = fields::write_byte(out, 0, b'M');
+    let b = fields::write_before_number(out, a, b'\t', side);
+    let c = fields::write_before_number(out, b, b'\t', line);
+    fields::write_byte(out, c, b'\n')
+}
+
+// A text, at a place of the room.
+fn write_text(out: &mut [u8], at: usize, text: &[u8]) -> usize
+    requires { ⌜ at + length (now text) ≤ length (now out) ⌝ }
+    ensures { λ r. ⌜ Wrote (now (out .entry)) at (now (text .entry)) (now (out .exit)) r ⌝ }
+{
+    let mut i: usize = 0;
+    while i < text.len() {
+        out[at + i] = text[i];
+        i += 1;
+    }
+    at + i
+}
+
+// Is a report too long, or the room for the text too short?
+fn no_room(first: &[u8], second: &[u8], out: &[u8]) -> bool
+    ensures { λ r. ⌜ r ≡ no-room (now (first .entry)) (now (second .entry)) (now (out .entry)) ⌝ }
+{
+    if LONGEST_REPORT < first.len() {
+        return true;
+    }
+    if LONGEST_REPORT < second.len() {
+        return true;
+    }
+    out.len() < LONGEST_TEXT
+}
+
+// What the program writes of two reports, at the start of the room: its length; 0, and nothing is written, where there is no room.
+pub fn compared_text<'a>(first: &'a [u8], second: &'a [u8], out: &mut [u8]) -> usize
+    ensures { λ r. ⌜ Told (now (first .entry)) (now (second .entry)) (now (out .entry)) (now (out .exit)) r ⌝ }
+{
+    if no_room(first, second, out) {
+        return 0;
+    }
+    let compared = compare(first, second);
+    match compared {
+        Compared::Equal => write_parted(out, 0),
+        Compared::Parts { line, place } => {
+            let end = write_parted(out, line as u32);
+            write_text(out, end, rest(first, second))
+        }
+        Compared::Malformed { side, line } => write_malformed(out, side as u32, line as u32),
     }
 }
