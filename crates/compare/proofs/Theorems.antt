@@ -1,7 +1,7 @@
 -- Theorems on two reports, over the definitions alone: equal exactly when the bytes are; the order of the two; the lines before the
 -- named one agree, and that one does not.
 use mathlib.Core.Path.{_≡_, refl, sym, ap, _∙_}
-use mathlib.Core.Bool.{Bool, true, false, cond, true≢false}
+use mathlib.Core.Bool.{Bool, true, false, cond, true≢false, Bool·beq}
 use mathlib.Core.List.{List, [], _∷_}
 use Prim.Native.Nat.{ℕ, zero, suc, _+_, _-_, _≤_, _<_}
 use native.Mathlib.Omega.{arith}
@@ -86,3 +86,56 @@ module _ (first second : Bytes) (good : bad-line first ≡ 0) (well : bad-line s
 pub either-order : (first second : Bytes) → bad-line first ≡ 0 → bad-line second ≡ 0 → compared first second ≡ compared second first
 either-order first second good well =
     scanned first second good well ∙ scan-turned 1 0 0 first second ∙ sym (scanned second first well good)
+
+-- of the pieces of two texts, counted from a line on: those before the named one agree, and that one does not
+pub record PartedAt (from line : ℕ) (ls ms : List Bytes) : Type 0 where
+  pub later : from ≤ line
+  pub before : take (line - from) ls ≡ take (line - from) ms
+  pub differs : same-line (getD ls (line - from) []) (drop (suc (line - from)) ls) (getD ms (line - from) []) (drop (suc (line - from)) ms) ≡ false
+
+abbrev Parted : ℕ → List Bytes → List Bytes → Compared → Type 0
+Parted from ls ms Equal = Unit {0}
+Parted from ls ms (Parts line place) = PartedAt from line ls ms
+Parted from ls ms (Malformed side line) = Unit {0}
+
+one-later : (from : ℕ) (l m : Bytes) (ls ms : List Bytes) (r : Compared) → l ≡ m → Parted (suc from) ls ms r → Parted from (l ∷ ls) (m ∷ ms) r
+one-later from l m ls ms Equal e p = tt
+one-later from l m ls ms (Parts line place) e p =
+    let n : line - from ≡ suc (line - suc from) = omega (arith, p .later) in
+    record { later = omega (arith, p .later); before = rw (n, e, p .before); differs = rw n (p .differs) }
+one-later from l m ls ms (Malformed side line) e p = tt
+
+text-same : (l m : Bytes) → same-text l m ≡ true → l ≡ m
+unfolding same-text
+text-same [] [] e = refl
+text-same [] (y ∷ ys) e = absurd (true≢false (sym e))
+text-same (x ∷ xs) [] e = absurd (true≢false (sym e))
+text-same (x ∷ xs) (y ∷ ys) e = rw (eqb-true x y (and-left _ _ e), text-same xs ys (and-right (eqb x y) (same-text xs ys) e))
+
+line-text : (l m : Bytes) (ls ms : List Bytes) → same-line l ls m ms ≡ true → same-text l m ≡ true
+unfolding same-line
+line-text l m ls ms e = and-left _ _ e
+
+line-last : (l m : Bytes) (ls ms : List Bytes) → same-line l ls m ms ≡ true → Bool·beq (empty ls) (empty ms) ≡ true
+unfolding same-line
+line-last l m ls ms e = and-right (same-text l m) (Bool·beq (empty ls) (empty ms)) e
+
+-- behind a line that is the same either both go on or none does
+parted : (line place : ℕ) (ls ms : List Bytes) → Bool·beq (empty ls) (empty ms) ≡ true → Parted line ls ms (parting line place ls ms)
+unfolding parting empty
+parted line place [] [] h = tt
+parted line place [] (m ∷ ms) h = absurd (true≢false (sym h))
+parted line place (l ∷ ls) [] h = absurd (true≢false (sym h))
+parted line place (l ∷ ls) (m ∷ ms) h =
+    by-test (same-line l ls m ms)
+    (λ e. rw e (one-later line l m ls ms (parting (suc line) (place + suc (length l)) ls ms) (text-same l m (line-text l m ls ms e)) (parted (suc line) (place + suc (length l)) ls ms (line-last l m ls ms e))))
+    λ e. rw e
+    (let z : line - line ≡ 0 = omega arith in record { later = omega arith; before = rw z; differs = rw z e })
+
+both-some : (first second : Bytes) → Bool·beq (empty (pieces first)) (empty (pieces second)) ≡ true
+both-some first second = rw (not-empty (pieces first) (pieces-some first), not-empty (pieces second) (pieces-some second))
+
+pub first-to-differ : (first second : Bytes) → bad-line first ≡ 0 → bad-line second ≡ 0 → (line place : ℕ) → compared first second ≡ Parts line place
+    → PartedAt 1 line (pieces first) (pieces second)
+first-to-differ first second good well line place e =
+    rw (sym (by-pieces first second good well) ∙ e) at (parted 1 0 (pieces first) (pieces second) (both-some first second))
