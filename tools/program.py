@@ -348,14 +348,17 @@ def output_of(name, text):
     return wrote
 
 
-def frame(text):
-    if len(text) > 99999:
-        raise Trouble('a text is too long for a frame')
-    return b'#%d\n%s' % (len(text), text)
+LONGEST_FRAME = 99999
+
+
+def framed(text):
+    """A text in frames: each has the longest size but the last, which is shorter."""
+    parts = [text[at:at + LONGEST_FRAME] for at in range(0, len(text) + 1, LONGEST_FRAME)]
+    return b''.join(b'#%d\n%s' % (len(part), part) for part in parts)
 
 
 def read_frame(stream):
-    """The text of the next frame, or None at the end of the stream."""
+    """What is in the next frame, or None at the end of the stream."""
     line = stream.readline(8)
     if not line:
         return None
@@ -366,12 +369,24 @@ def read_frame(stream):
     return text
 
 
+def read_text(stream):
+    """The next text, which goes on behind a frame of the longest size, or None at the end of the stream."""
+    parts = [read_frame(stream)]
+    while parts[-1] is not None and len(parts[-1]) == LONGEST_FRAME:
+        parts.append(read_frame(stream))
+    if parts == [None]:
+        return None
+    if parts[-1] is None:
+        raise Trouble('what the program wrote is no whole text: nothing is handed on')
+    return b''.join(parts)
+
+
 def feed(stream, requests, sent, wrong):
     """Writes each request's frames; what went wrong in making one is kept for who reads the answers."""
     try:
         for request in requests:
             sent.append(len(request))
-            stream.write(b''.join(map(frame, request)))
+            stream.write(b''.join(map(framed, request)))
     except BrokenPipeError:
         pass
     except Exception as why:
@@ -382,19 +397,19 @@ def feed(stream, requests, sent, wrong):
 
 
 def answers_of(name, requests):
-    """One run of a program over requests, each a list of texts that are sent in frames: yields the text of the one frame that answers
-    each, and ends where every one was answered."""
+    """One run of a program over requests, each a list of texts that are sent in frames: yields the text that answers each, and
+    ends where every one was answered."""
     sent, wrong, answered = [], [], 0
     with running(name) as child:
         feeder = threading.Thread(target=feed, args=[child.stdin, requests, sent, wrong], daemon=True)
         feeder.start()
-        text = read_frame(child.stdout)
+        text = read_text(child.stdout)
         while text is not None:
             answered += 1
             if answered > len(sent):
                 raise Trouble('the program answered what it was not asked: nothing is handed on')
             yield text
-            text = read_frame(child.stdout)
+            text = read_text(child.stdout)
         ended_well(child)
         feeder.join()
     if wrong:

@@ -11,6 +11,7 @@ mod frames;
 mod generate;
 mod house;
 mod old;
+mod pairs;
 mod plain;
 mod random;
 mod report;
@@ -38,6 +39,7 @@ use std::io::{self, Write};
 const USAGE: &str = "usage:
   oracle speak                       answers frames on standard input with four frames each
   oracle drive N SEED COMMAND        compares COMMAND, which speaks frames, on N sheets and those of every run
+  oracle pairs N SEED COMMAND        compares COMMAND, which compares two reports, on N pairs of reports
   oracle self-test N SEED            the tests of the tests
   oracle sheet SEED INDEX            writes one generated sheet
   oracle timed SEED INDEX            writes one function that bench/ times
@@ -53,6 +55,9 @@ fn main() {
         ["speak", "wrong", name] => wrong(name).and_then(|wrong| speak(Old::Plain, wrong)),
         ["drive", sheets, seed, command] => {
             number(sheets).and_then(|n| drive(n, number(seed)?, command))
+        }
+        ["pairs", pairs, seed, command] => {
+            number(pairs).and_then(|n| pairs::drive(n, number(seed)?, command))
         }
         ["sheet", seed, index] => number(seed).and_then(|s| one_sheet(s, number(index)?)),
         ["timed", seed, index] => number(seed).and_then(|s| one_timed(s, number(index)?)),

@@ -7,5 +7,6 @@ pub mod Steps
 pub mod Runs
 pub mod Report
 pub mod Answer
+pub mod Comparison
 pub mod Walks
 pub mod Programs

@@ -1,4 +1,4 @@
-// The two choices that document 01 names, its refusals and its answers, as the code passes them.
+// The choices that the papers name, document 01's refusals and answers, and what two reports come to, as the code passes them.
 
 // The rule is a choice of two, with no third value.
 pub enum Rule {
@@ -36,4 +36,12 @@ pub enum Answer {
     Accepted(usize),
     Faulty(usize),
     Refused(Refusal),
+}
+
+// What two reports come to: equal; they part, at a line whose first byte stands at a place of both; or one is malformed, the first
+// or the second, and this is its first bad line.
+pub enum Compared {
+    Equal,
+    Parts { line: usize, place: usize },
+    Malformed { side: u8, line: usize },
 }

@@ -1,0 +1,7 @@
+pub mod Laws
+pub mod LawsPart
+pub mod LawsLine
+pub mod LawsRest
+pub mod LawsText
+pub mod Theorems
+pub mod Spelled

@@ -1,0 +1,273 @@
+-- What a report's text is read as: a report that is written of lines whose numbers have at most five digits is well formed.
+use mathlib.Core.Path.{_≡_, refl, sym, ap, _∙_}
+use mathlib.Core.Bool.{Bool, true, false, cond, not, _&&_, true≢false}
+use mathlib.Core.List.{List, [], _∷_, _++_, append-assoc}
+use mathlib.Core.Option.{Option, none, some}
+use Prim.Native.Nat.{ℕ, suc, _+_, _<_}
+use native.Mathlib.Nat.{add-zero}
+use native.Mathlib.Omega.{arith}
+use borrow.Author.Tests.{eq-eqb, ne-eqb, not-true}
+use lib.Dec.{eqb}
+use lib.ListN.{length}
+use Rattle.lists.specs.Split.{by-test, and-left, and-right}
+use Rattle.paper.specs.Text.{Bytes, tab, line-feed, parts, onto-first, fields, is-digit, all-digits, number-of, digits, digit-from, Name, real, virtual, name-text, name-of}
+use Rattle.paper.specs.Steps.{Fault, missing-allocation-for-reg, unknown-value-in-reg, incorrect-value-in-reg, unknown-value-in-slot, incorrect-value-in-slot, stack-map-specifies-non-ref-slot, stack-map-specifies-undefined-slot}
+use Rattle.paper.specs.Refusals.{_>>=_, next, ended, any, empty}
+use Rattle.paper.specs.Report.{Line, kind-of, reg-text, slot-text, fault-fields, behind-tabs, line-text, lines-text, rule-text, header-text, report-text, letter-E, letter-R}
+use Rattle.paper.specs.declared.Rule.{Rule}
+use Rattle.paper.specs.declared.Rule.the-variants.{Old, House}
+use Rattle.paper.specs.Comparison.{given, same-text, a-number, a-name, lettered, fits, fault-shape, line-shapes, well-shaped, past, a-rule, count-of, pieces, bad-from, bad-behind, bad-first, bad-line}
+use Rattle.fields.specs.Fields.{ends-field, name-made}
+use Rattle.fields.specs.Spelling.{number, digit-range, number-of-digits, name-of-text}
+use Rattle.fields.specs.Told.{unbroken}
+use Rattle.compare.proofs.LawsPart.{pieces-none, pieces-feed, pieces-more, pieces-some, not-empty}
+
+-- numbers of at most five digits
+
+abbrev pub Small : ℕ → Type 0
+Small n = n < 100000
+
+abbrev pub SmallName : Name → Type 0
+SmallName (real n) = Small n
+SmallName (virtual n) = Small n
+
+abbrev pub SmallReg : Option ℕ → Type 0
+SmallReg none = ⊥
+SmallReg (some r) = Small r
+
+abbrev pub SmallFault : Fault → Type 0
+SmallFault (missing-allocation-for-reg n) = SmallName n
+SmallFault (unknown-value-in-reg r) = SmallReg r
+SmallFault (incorrect-value-in-reg r e a) = SmallReg r × SmallName e × SmallName a
+SmallFault (unknown-value-in-slot k e) = Small k × SmallName e
+SmallFault (incorrect-value-in-slot k e a) = Small k × SmallName e × SmallName a
+SmallFault (stack-map-specifies-non-ref-slot k) = Small k
+SmallFault (stack-map-specifies-undefined-slot k) = Small k
+
+-- a line's numbers are small, and its register, if it names one, is given
+pub record SmallLine (l : Line) : Type 0 where
+  pub block : Small (l .block)
+  pub place : Small (l .place)
+  pub inst : Small (l .inst)
+  pub fault : SmallFault (l .fault)
+
+unfoldable pub SmallLines : List Line → Type 0
+SmallLines [] = Unit {0}
+SmallLines (l ∷ ls) = SmallLine l × SmallLines ls
+
+-- fields without a tab or a line feed
+
+unbroken-digits : (f : Bytes) → all-digits f ≡ true → unbroken f ≡ true
+unfolding unbroken all-digits ends-field
+unbroken-digits [] e = refl
+unbroken-digits (b ∷ bs) e =
+    let r = digit-range b (and-left _ _ e) in
+    rw (ne-eqb b 9 (omega arith), ne-eqb b 10 (omega arith)) (unbroken-digits bs (and-right (is-digit b) (all-digits bs) e))
+
+plain-number : (v : ℕ) → Small v → unbroken (digits v) ≡ true
+plain-number v h = unbroken-digits (digits v) (number (number-of-digits v h) .all)
+
+plain-name : (n : Name) → SmallName n → unbroken (name-text n) ≡ true
+unfolding unbroken name-text ends-field
+plain-name (real n) h = plain-number n h
+plain-name (virtual n) h = plain-number n h
+
+plain-reg : (r : Option ℕ) → SmallReg r → unbroken (reg-text r) ≡ true
+unfolding unbroken reg-text ends-field
+plain-reg (some r) h = plain-number r h
+plain-reg none h = absurd h
+
+plain-slot : (k : ℕ) → Small k → unbroken (slot-text k) ≡ true
+unfolding unbroken slot-text ends-field
+plain-slot k h = plain-number k h
+
+unfoldable Plain : List Bytes → Type 0
+Plain [] = Unit {0}
+Plain (f ∷ fs) = (unbroken f ≡ true) × Plain fs
+
+-- the fields behind a letter, each behind a tab
+unfoldable row : List Bytes → Bytes
+row [] = []
+row (f ∷ fs) = tab ∷ (f ++ row fs)
+
+row-closed : (fs : List Bytes) (rest : Bytes) → behind-tabs fs ++ rest ≡ row fs ++ (line-feed ∷ rest)
+unfolding behind-tabs row
+row-closed [] rest = refl
+row-closed (f ∷ fs) rest = ap (λ (t : Bytes). tab ∷ t) (append-assoc f (behind-tabs fs) rest ∙ ap (λ (t : Bytes). f ++ t) (row-closed fs rest) ∙ sym (append-assoc f (row fs) (line-feed ∷ rest)))
+
+no-tab : (b : ℕ) (bs : Bytes) → unbroken (b ∷ bs) ≡ true → eqb b tab ≡ false
+unfolding unbroken ends-field
+no-tab b bs e = by-test (eqb b tab) (λ y. absurd (true≢false (sym e ∙ rw y))) λ y. y
+
+no-feed : (b : ℕ) (bs : Bytes) → unbroken (b ∷ bs) ≡ true → eqb b line-feed ≡ false
+unfolding unbroken ends-field
+no-feed b bs e =
+    by-test (eqb b line-feed)
+    (λ y. absurd (by-test (eqb b tab) (λ x. true≢false (sym e ∙ rw x)) λ x. true≢false (sym e ∙ rw (x, y))))
+    λ y. y
+
+tail-plain : (b : ℕ) (bs : Bytes) → unbroken (b ∷ bs) ≡ true → unbroken bs ≡ true
+unfolding unbroken
+tail-plain b bs e = and-right (not (ends-field b)) (unbroken bs) e
+
+-- a row is parted into its fields
+
+field-onto : (f rest : Bytes) (gs : List Bytes) → unbroken f ≡ true → fields rest ≡ [] ∷ gs → fields (f ++ rest) ≡ f ∷ gs
+unfolding fields parts onto-first
+field-onto [] rest gs e q = q
+field-onto (b ∷ bs) rest gs e q = rw (no-tab b bs e, field-onto bs rest gs (tail-plain b bs e) q)
+
+row-behind : (fs : List Bytes) → Plain fs → fields (row fs) ≡ [] ∷ fs
+unfolding fields parts row Plain
+row-behind [] p = refl
+row-behind (g ∷ gs) p = ap (λ (t : List Bytes). [] ∷ t) (field-onto g (row gs) gs (p .0) (row-behind gs (p .1)))
+
+row-fields : (f : Bytes) (fs : List Bytes) → unbroken f ≡ true → Plain fs → fields (f ++ row fs) ≡ f ∷ fs
+row-fields f fs e p = field-onto f (row fs) fs e (row-behind fs p)
+
+-- and is one piece of the text
+
+piece-onto : (f rest : Bytes) (r : Bytes) (ps : List Bytes) → unbroken f ≡ true → pieces rest ≡ r ∷ ps → pieces (f ++ rest) ≡ (f ++ r) ∷ ps
+unfolding onto-first
+piece-onto [] rest r ps e q = q
+piece-onto (b ∷ bs) rest r ps e q = pieces-more b (bs ++ rest) (no-feed b bs e) ∙ rw (piece-onto bs rest r ps (tail-plain b bs e) q)
+
+row-piece : (fs : List Bytes) (rest : Bytes) → Plain fs → pieces (row fs ++ (line-feed ∷ rest)) ≡ row fs ∷ pieces rest
+unfolding row Plain onto-first
+row-piece [] rest p = pieces-feed line-feed rest refl
+row-piece (g ∷ gs) rest p =
+    pieces-more tab ((g ++ row gs) ++ (line-feed ∷ rest)) refl
+    ∙ rw (append-assoc g (row gs) (line-feed ∷ rest), piece-onto g (row gs ++ (line-feed ∷ rest)) (row gs) (pieces rest) (p .0) (row-piece gs rest (p .1)))
+
+piece-of : (f : Bytes) (fs : List Bytes) (rest : Bytes) → unbroken f ≡ true → Plain fs → pieces ((f ++ row fs) ++ (line-feed ∷ rest)) ≡ (f ++ row fs) ∷ pieces rest
+piece-of f fs rest e p =
+    rw (append-assoc f (row fs) (line-feed ∷ rest)) (piece-onto f (row fs ++ (line-feed ∷ rest)) (row fs) (pieces rest) e (row-piece fs rest p))
+
+-- each field has its shape
+
+read-number : (v : ℕ) → Small v → a-number (digits v) ≡ true
+unfolding a-number given
+read-number v h = rw (number-of-digits v h)
+
+read-name : (n : Name) → SmallName n → a-name (name-text n) ≡ true
+unfolding a-name given name-made
+read-name (real n) h = rw (name-of-text true n h)
+read-name (virtual n) h = rw (name-of-text false n h)
+
+read-reg : (r : Option ℕ) → SmallReg r → lettered 114 (reg-text r) ≡ true
+unfolding lettered reg-text
+read-reg (some r) h = read-number r h
+read-reg none h = absurd h
+
+read-slot : (k : ℕ) → Small k → lettered 115 (slot-text k) ≡ true
+unfolding lettered slot-text
+read-slot k h = read-number k h
+
+-- the kinds' digits
+kind-digits : (digits 1 ≡ 49 ∷ []) × (digits 2 ≡ 50 ∷ []) × (digits 3 ≡ 51 ∷ []) × (digits 4 ≡ 52 ∷ []) × (digits 5 ≡ 53 ∷ []) × (digits 6 ≡ 54 ∷ []) × (digits 7 ≡ 55 ∷ [])
+unfolding digits digit-from
+kind-digits = (refl, refl, refl, refl, refl, refl, refl)
+
+abbrev behind-letter : ℕ → ℕ → ℕ → Fault → List Bytes
+behind-letter block place inst fault = digits block ∷ digits place ∷ digits inst ∷ digits (kind-of fault) ∷ fault-fields fault
+
+plain-fields : (f : Fault) → SmallFault f → Plain (fault-fields f)
+unfolding Plain fault-fields unbroken ends-field
+plain-fields (missing-allocation-for-reg n) h = (refl, (plain-name n h, (refl, (tt))))
+plain-fields (unknown-value-in-reg r) h = (plain-reg r h, (refl, (refl, (tt))))
+plain-fields (incorrect-value-in-reg r e a) h = (plain-reg r (h .0), (plain-name e (h .1), (plain-name a (h .2), (tt))))
+plain-fields (unknown-value-in-slot k e) h = (plain-slot k (h .0), (plain-name e (h .1), (refl, (tt))))
+plain-fields (incorrect-value-in-slot k e a) h = (plain-slot k (h .0), (plain-name e (h .1), (plain-name a (h .2), (tt))))
+plain-fields (stack-map-specifies-non-ref-slot k) h = (plain-slot k h, (refl, (refl, (tt))))
+plain-fields (stack-map-specifies-undefined-slot k) h = (plain-slot k h, (refl, (refl, (tt))))
+
+small-kind : (f : Fault) → Small (kind-of f)
+unfolding kind-of
+small-kind (missing-allocation-for-reg n) = omega arith
+small-kind (unknown-value-in-reg r) = omega arith
+small-kind (incorrect-value-in-reg r e a) = omega arith
+small-kind (unknown-value-in-slot k e) = omega arith
+small-kind (incorrect-value-in-slot k e a) = omega arith
+small-kind (stack-map-specifies-non-ref-slot k) = omega arith
+small-kind (stack-map-specifies-undefined-slot k) = omega arith
+
+module _ (block place inst : ℕ) (hb : Small block) (hp : Small place) (hi : Small inst) where
+  shapes-fit : (f : Fault) → SmallFault f → any (λ shapes. fits shapes ((letter-E ∷ []) ∷ behind-letter block place inst f)) line-shapes ≡ true
+  unfolding any line-shapes fault-shape fits same-text fault-fields kind-of empty
+  shapes-fit (missing-allocation-for-reg n) h =
+      rw (read-number block hb, read-number place hp, read-number inst hi, kind-digits .0, read-name n h)
+  shapes-fit (unknown-value-in-reg r) h =
+      rw (read-number block hb, read-number place hp, read-number inst hi, kind-digits .0, kind-digits .1, read-reg r h)
+  shapes-fit (incorrect-value-in-reg r e a) h =
+      rw (read-number block hb, read-number place hp, read-number inst hi, kind-digits .0, kind-digits .1, kind-digits .2, read-reg r (h .0), read-name e (h .1), read-name a (h .2))
+  shapes-fit (unknown-value-in-slot k e) h =
+      rw (read-number block hb, read-number place hp, read-number inst hi, kind-digits .0, kind-digits .1, kind-digits .2, kind-digits .3, read-slot k (h .0), read-name e (h .1))
+  shapes-fit (incorrect-value-in-slot k e a) h =
+      rw (read-number block hb, read-number place hp, read-number inst hi, kind-digits .0, kind-digits .1, kind-digits .2, kind-digits .3, kind-digits .4, read-slot k (h .0), read-name e (h .1), read-name a (h .2))
+  shapes-fit (stack-map-specifies-non-ref-slot k) h =
+      rw (read-number block hb, read-number place hp, read-number inst hi, kind-digits .0, kind-digits .1, kind-digits .2, kind-digits .3, kind-digits .4, kind-digits .5, read-slot k h)
+  shapes-fit (stack-map-specifies-undefined-slot k) h =
+      rw (read-number block hb, read-number place hp, read-number inst hi, kind-digits .0, kind-digits .1, kind-digits .2, kind-digits .3, kind-digits .4, kind-digits .5, kind-digits .6, read-slot k h)
+
+-- a line
+
+abbrev row-of : Line → Bytes
+row-of l = (letter-E ∷ []) ++ row (behind-letter (l .block) (l .place) (l .inst) (l .fault))
+
+line-plain : (l : Line) → SmallLine l → Plain (behind-letter (l .block) (l .place) (l .inst) (l .fault))
+unfolding Plain
+line-plain l h = (plain-number (l .block) (h .block), (plain-number (l .place) (h .place), (plain-number (l .inst) (h .inst), (plain-number (kind-of (l .fault)) (small-kind (l .fault)), (plain-fields (l .fault) (h .fault))))))
+
+plain-E : unbroken (letter-E ∷ []) ≡ true
+unfolding unbroken ends-field
+plain-E = refl
+
+line-shaped : (l : Line) → SmallLine l → well-shaped (row-of l) ≡ true
+unfolding well-shaped
+line-shaped l h =
+    rw (row-fields (letter-E ∷ []) (behind-letter (l .block) (l .place) (l .inst) (l .fault)) plain-E (line-plain l h))
+    (shapes-fit (l .block) (l .place) (l .inst) (h .block) (h .place) (h .inst) (l .fault) (h .fault))
+
+line-piece : (l : Line) (rest : Bytes) → SmallLine l → pieces (line-text l ++ rest) ≡ row-of l ∷ pieces rest
+unfolding line-text
+line-piece l rest h =
+    ap (λ (t : Bytes). pieces (letter-E ∷ t)) (row-closed (behind-letter (l .block) (l .place) (l .inst) (l .fault)) rest)
+    ∙ piece-of (letter-E ∷ []) (behind-letter (l .block) (l .place) (l .inst) (l .fault)) rest plain-E (line-plain l h)
+
+lines-judged : (count line : ℕ) (ls : List Line) → SmallLines ls → bad-from count line (pieces (lines-text ls)) ≡ cond (eqb (count + 2) (line + length ls)) 0 1
+unfolding lines-text SmallLines bad-from empty
+lines-judged count line [] h = rw (pieces-none, add-zero line) ended-well
+  where
+    ended-well : bad-from count line ([] ∷ []) ≡ cond (eqb (count + 2) line) 0 1
+    ended-well = refl
+lines-judged count line (l ∷ ls) h =
+    let q : line + suc (length ls) ≡ suc line + length ls = omega arith in
+    rw (line-piece l (lines-text ls) (h .0), not-empty (pieces (lines-text ls)) (pieces-some (lines-text ls)), line-shaped l (h .0), lines-judged count (suc line) ls (h .1), q)
+
+-- the header
+
+plain-rule : (rule : Rule) → unbroken (rule-text rule) ≡ true
+unfolding unbroken rule-text ends-field
+plain-rule Old = refl
+plain-rule House = refl
+
+plain-R : unbroken (letter-R ∷ []) ≡ true
+unfolding unbroken ends-field
+plain-R = refl
+
+header-plain : (rule : Rule) (n : ℕ) → Small n → Plain (rule-text rule ∷ digits n ∷ [])
+unfolding Plain
+header-plain rule n h = (plain-rule rule, (plain-number n h, (tt)))
+
+header-counts : (rule : Rule) (n : ℕ) → Small n → count-of ((letter-R ∷ []) ∷ rule-text rule ∷ digits n ∷ []) ≡ some n
+unfolding count-of past same-text a-rule rule-text next ended
+header-counts Old n h = rw (number-of-digits n h)
+header-counts House n h = rw (number-of-digits n h)
+
+-- whatever is written of such lines, under either rule, is well formed
+pub written-well : (rule : Rule) (ls : List Line) → SmallLines ls → Small (length ls) → bad-line (report-text rule ls) ≡ 0
+unfolding report-text header-text bad-line bad-first bad-behind
+written-well rule ls h few =
+    let fs : List Bytes = rule-text rule ∷ digits (length ls) ∷ [] in
+    let p = header-plain rule (length ls) few in
+    rw (row-closed fs (lines-text ls), piece-of (letter-R ∷ []) fs (lines-text ls) plain-R p, not-empty (pieces (lines-text ls)) (pieces-some (lines-text ls)), row-fields (letter-R ∷ []) fs plain-R p, header-counts rule (length ls) few, lines-judged (length ls) 2 ls h, eq-eqb (length ls + 2) (2 + length ls) (omega arith))
