@@ -4,8 +4,8 @@
  * programs over it. Link with target/staticlib/libchecker.a, which `rt staticlib checker` proves and builds, for x86-64 Linux, from
  * the same sources as this file. The library allocates nothing, keeps nothing between calls, and calls nothing but memcpy and memset.
  *
- * 1 sizes, 2 rules and answers, 3 the verdict, 4 the buffers, 5 the functions. What is said of a function under "Promise" is proved
- * (docs/PROMISES.md) for every call that keeps what is said under "The caller".
+ * 1 sizes, 2 rules and answers, 3 the verdict, 4 the buffers, 5 the functions, 6 two reports compared. What is said of a function under
+ * "Promise" is proved (docs/PROMISES.md) for every call that keeps what is said under "The caller".
  */
 #ifndef ITANROPEN_H
 #define ITANROPEN_H
@@ -114,6 +114,31 @@ static inline itanropen_verdict itanropen_check_in(itanropen_buffers *buffers, u
 {
     return itanropen_check_arrays(rule, sheet, sheet_bytes, &buffers->report, &buffers->words, &buffers->queue);
 }
+
+/* 6. Two reports compared, by target/staticlib/libcompare.a (`rt staticlib compare`), beside crates/compare/src/lib.rt. */
+#define ITANROPEN_EQUAL 0
+#define ITANROPEN_PARTS 1
+#define ITANROPEN_MALFORMED 2
+
+typedef struct itanropen_judgement {
+    uint8_t answer; /* ITANROPEN_EQUAL, ITANROPEN_PARTS or ITANROPEN_MALFORMED */
+    uint8_t side;   /* malformed: 1 the first report, 2 the second; else 0 */
+    size_t line;    /* they part: the first line that differs, from 1; malformed: the first bad line; else 0 */
+    size_t place;   /* they part: where that line begins, in bytes, the same in both; else 0 */
+} itanropen_judgement;
+
+typedef char itanropen_judgement_has_24_bytes[sizeof(itanropen_judgement) == 24 && offsetof(itanropen_judgement, line) == 8 ? 1 : -1];
+
+/* itanropen_compare: are two reports the same, and where do they part?
+ *
+ * Promise (`judgement-of (compared first second)`, crates/paper/specs/Comparison.antt), for any bytes of any length: the first report is
+ * judged first; equal exactly where both are well formed and their bytes are the same; nothing is changed, and the call returns. What
+ * is handed back of the longer one, of two equally long the first, is its bytes from `place` on.
+ *
+ * The caller: each pointer points at as many bytes as the count behind it says, live and readable during the call, written by no one
+ * meanwhile; no pointer is null. The two may overlap.
+ */
+itanropen_judgement itanropen_compare(const uint8_t *first, size_t first_count, const uint8_t *second, size_t second_count);
 
 #ifdef __cplusplus
 }
