@@ -291,8 +291,7 @@ fn check_block(
         let inst = steps::inst_of(action);
         let position = Position { block, place, inst };
         next = count_or_write(pass, report, next, position, error);
-        let u = steps::update(words, rule, t, action);
-        t = u;
+        steps::update(words, rule, &mut t, action);
         place += 1;
     }
     next

@@ -418,7 +418,7 @@ fn change(rule: Rule, s: &mut State, slot: usize, from: u16, to: u16)
 }
 
 // A step takes effect in the state that is lent.
-fn update_in(words: &[u16], rule: Rule, s: &mut State, action: Action)
+pub fn update(words: &[u16], rule: Rule, s: &mut State, action: Action)
     requires { ⌜ InRange row-widths (now words) action ⌝ }
     ensures { λ r. ⌜ ((counts : List ℕ) → RowsFit counts → InRange counts (now (words .entry)) action → (ref : Name → Bool) → Honest ref (now (words .entry)) action → state-of counts (now (s .exit)) ≡ paper.effect rule ref (step-of (now (words .entry)) action) (state-of counts (now (s .entry)))) ⌝ }
 {
@@ -442,16 +442,6 @@ fn update_in(words: &[u16], rule: Rule, s: &mut State, action: Action)
     }
 }
 
-// A step takes effect.
-pub fn update(words: &[u16], rule: Rule, s: State, action: Action) -> State
-    requires { ⌜ InRange row-widths (now words) action ⌝ }
-    ensures { λ r. ⌜ ((counts : List ℕ) → RowsFit counts → InRange counts (now (words .entry)) action → (ref : Name → Bool) → Honest ref (now (words .entry)) action → state-of counts r ≡ paper.effect rule ref (step-of (now (words .entry)) action) (state-of counts s)) ⌝ }
-{
-    let mut after = s;
-    update_in(words, rule, &mut after, action);
-    after
-}
-
 // The steps of a block, one after the other.
 pub fn effects(words: &[u16], rule: Rule, s: State, first: usize, count: usize) -> State
     requires { ⌜ Runnable row-widths (now words) first count ⌝ }
@@ -462,7 +452,7 @@ pub fn effects(words: &[u16], rule: Rule, s: State, first: usize, count: usize) 
     let mut left = count;
     while 0 < left {
         let action = action_at(words, k);
-        update_in(words, rule, &mut t, action);
+        update(words, rule, &mut t, action);
         k += 1;
         left -= 1;
     }

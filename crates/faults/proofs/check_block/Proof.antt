@@ -115,10 +115,10 @@ count-or-write-requires c κs = let a = c .before .before .before in
     ((omega arith, omega arith), e, omega arith)
 
 update-requires : tie.Need-update-requires Inv-loop μ-loop
-update-requires c κs = ranged-most (c .before .before .before .before .before .before)
+update-requires c κs = ranged-most (c .before .before .before .before .before .before .before)
 
 add-place : tie.Need-add-place Inv-loop μ-loop
-add-place c = let n = c .before .before .before in
+add-place c = let n = c .before .before .before .before in
     let a = n .before .before .before .before in
     omega (arith, within (start-of (a .before)))
 
@@ -126,7 +126,7 @@ loop-less : tie.Need-loop-less Inv-loop μ-loop
 loop-less c = omega arith
 
 loop-again : tie.Need-loop-again Inv-loop μ-loop
-loop-again c = let n = c .before .before .before in
+loop-again c = let n = c .before .before .before .before in
     let a = n .before .before .before .before in
     let s = start-of (a .before) in
     let l = a .before .before in (

@@ -40,8 +40,8 @@ in-range c counts r =
     let l = c .before .before in
     rw (c .action-at .ensures) (r .in-range _ (l .loop .inv .1) (omega arith))
 
-update-in-requires : tie.Need-update-in-requires Inv-loop μ-loop
-update-in-requires c κs =
+update-requires : tie.Need-update-requires Inv-loop μ-loop
+update-requires c κs =
     in-range (c .before) _ (start-of (c .before .before .before) .pre)
 
 add-k : tie.Need-add-k Inv-loop μ-loop
@@ -61,7 +61,7 @@ loop-again c =
       omega arith,
       λ counts r ref h.
           let honest = h _ (l .loop .inv .1) (omega arith) in
-          rw (c .update-in .ensures counts (r .rows-fit) (in-range a counts r) ref (rw (a .action-at .ensures) honest), a .action-at .ensures)
+          rw (c .update .ensures counts (r .rows-fit) (in-range a counts r) ref (rw (a .action-at .ensures) honest), a .action-at .ensures)
           (next-step _ ref _ _ _ _ (a .before .loop-test .taken))
           ∙ l .loop .inv .2 counts r ref h,
     )
@@ -77,7 +77,7 @@ effects-spec =
     μ-loop
     loop-holds
     action-at-requires
-    update-in-requires
+    update-requires
     add-k
     sub-left
     loop-less
