@@ -3,11 +3,34 @@
 
 use crate::generate::{allocated, any_inst, numbered, small, tangled};
 use crate::random::Random;
-use crate::sheet::{Sheet, INST_LIMIT, SHEET_LIMIT};
+use crate::sheet::{
+    Sheet, BLOCKS_LIMIT, INST_LIMIT, OPERANDS_LIMIT, REGS_LIMIT, SHEET_LIMIT, SLOTS_LIMIT, STEPS_LIMIT, SUCCS_LIMIT, VREGS_LIMIT,
+};
 
-/// Text with blanks for tabs to a sheet's bytes.
+/// The limits as the texts below name them: `<blocks>`, and near it `<blocks-2>`, `<blocks-1>`, `<blocks+1>`.
+const LIMITS: [(&str, u32); 6] = [
+    ("regs", REGS_LIMIT),
+    ("slots", SLOTS_LIMIT),
+    ("vregs", VREGS_LIMIT),
+    ("blocks", BLOCKS_LIMIT),
+    ("inst", INST_LIMIT),
+    ("operands", OPERANDS_LIMIT as u32),
+];
+
+/// Text with numbers for the limits that it names.
+fn limited(text: &str) -> String {
+    let mut text = text.to_string();
+    for &(name, limit) in LIMITS.iter().filter(|_| text.contains('<')).collect::<Vec<_>>() {
+        for (sign, value) in &[("", limit), ("-2", limit - 2), ("-1", limit - 1), ("+1", limit + 1)] {
+            text = text.replace(&format!("<{}{}>", name, sign), &value.to_string());
+        }
+    }
+    text
+}
+
+/// Text with limits by name, and with blanks for tabs, to a sheet's bytes.
 pub fn sheet(text: &str) -> Vec<u8> {
-    text.replace(' ', "\t").into_bytes()
+    limited(text).replace(' ', "\t").into_bytes()
 }
 
 const HEAD: &str = "F 2 2 2 1 0\nB\n";
@@ -18,13 +41,13 @@ const STEP_LINES: &[&str] = &[
     "S 0 0", "S 1 1", "S 2 0", "S 0 2", "S 2 2", "S 0", "S", "S 0 0 0", "S 0 r0", "S 0 -", "S v0 0",
     "L 0 0", "L 1 1", "L 2 0", "L 0 2", "L 2 2", "L 0", "L", "L 0 0 0", "L r0 0", "L 0 s0",
     "M 0 0", "M 1 1", "M 2 0", "M 0 2", "M 2 2", "M 0", "M", "M 0 0 0", "M r0 r1", "M 1 -",
-    "C 0 0 v0 v1", "C 65535 1 v1 v0", "C 65536 0 v0 v1", "C 99999 0 v0 v1", "C 100000 0 v0 v1",
+    "C 0 0 v0 v1", "C <inst> 1 v1 v0", "C <inst+1> 0 v0 v1", "C 99999 0 v0 v1", "C 100000 0 v0 v1",
     "C 0 2 v0 v1", "C 0 0 v2 v1", "C 0 0 v0 v2", "C 0 0 r1 v1", "C 0 0 r2 v1", "C 0 0 v1 r1",
     "C 0 0 v1 r2", "C 0 0 r0 r0", "C 0 0 v0", "C 0 0 v0 v1 v0", "C 0 0 0 v1", "C 0 0 v0 1",
     "C 0 0 - v1", "C 0 0 r v1", "C 0 0 v v1", "C 0 0 r00 v1", "C 0 0 v01 v1", "C 0 0 V0 v1",
     "C 0 0 R0 v1", "C 0 0 x0 v1", "C 0 0 s0 v1", "C 0 0 v99999 v1", "C 0 0 v100000 v1",
     "C 0 0 v-1 v1", "C 0 0 v0* v1", "C", "C 0", "C 0 0", "C v0 v1 0 0", "C 0 99999 v0 v1",
-    "O", "O 0", "O 0 0", "O 0 0 0", "O 0 0 0 0", "O 65535 0 0", "O 65536 0 0", "O 99999 0 0",
+    "O", "O 0", "O 0 0", "O 0 0 0", "O 0 0 0 0", "O <inst> 0 0", "O <inst+1> 0 0", "O 99999 0 0",
     "O 100000 0 0", "O 00 0 0", "O 0 00 0", "O 0 0 00", "O - 0 0", "O 0 - 0", "O 0 0 -",
     "O 0 1 v0 0 0", "O 0 1 v1 1 0", "O 0 1 v2 0 0", "O 0 1 v0 2 0", "O 0 1 v0 - 0", "O 0 1 r0 0 0",
     "O 0 1 r1 1 0", "O 0 1 r2 2 0", "O 0 1 r0 1 0", "O 0 1 r0 - 0", "O 0 1 r0 2 0", "O 0 1 r2 - 0",
@@ -38,13 +61,13 @@ const STEP_LINES: &[&str] = &[
     "O 0 0 2 v0 - v0 -", "O 0 0 2 v0 - v1 0", "O 0 0 2 r0 0 v0 0", "O 0 0 2 r0 0 v0 -",
     "O 0 0 2 r0 0 r1 1", "O 0 0 2 r0 0 r0 0", "O 0 0 2 r0 0 r0 1", "O 0 0 2 r0 - v1 0",
     "O 0 0 2 r0 - r1 -", "O 0 0 2 r0 1 v1 1", "O 0 0 2 r0 1 v1 0", "O 0 0 2 r0 1 r1 0",
-    "O 0 1 v0 0 1 v0 0", "O 0 1 r0 0 1 r0 0", "O 0 1 v0 - 1 v1 -", "O 0 9 0", "O 0 0 9",
-    "O 0 99999 0", "O 0 100000 0", "O 0 0 99999", "O 0 1 v0 0 99999", "O 0 8 0", "O 0 0 8",
+    "O 0 1 v0 0 1 v0 0", "O 0 1 r0 0 1 r0 0", "O 0 1 v0 - 1 v1 -", "O 0 <operands+1> 0", "O 0 0 <operands+1>",
+    "O 0 99999 0", "O 0 100000 0", "O 0 0 99999", "O 0 1 v0 0 99999", "O 0 <operands> 0", "O 0 0 <operands>",
     "O 0 2 v0 0 v0 2 0", "O 0 2 v2 0 v2 1 0", "O 0 2 r0 1 r0 1 0", "O 0 2 r0 2 r0 2 0",
-    "O 0 1 r0 1 1 v0 2", "O 65536 1 r0 1 0", "O 65536 2 v0 0 v0 0 0", "O 65536 0 x",
-    "P 0", "P 65535", "P 65536", "P 99999", "P 100000", "P", "P 0 0", "P 0 1", "P 0 2", "P 0 0 1",
+    "O 0 1 r0 1 1 v0 2", "O <inst+1> 1 r0 1 0", "O <inst+1> 2 v0 0 v0 0 0", "O <inst+1> 0 x",
+    "P 0", "P <inst>", "P <inst+1>", "P 99999", "P 100000", "P", "P 0 0", "P 0 1", "P 0 2", "P 0 0 1",
     "P 0 1 0", "P 0 0 0", "P 0 1 1", "P 0 0 1 2", "P 0 2 1", "P 0 2 2", "P 0 0 r0", "P 0 s0",
-    "P 0 -", "P v0", "P 0 0 1 1", "P 65536 1 0", "P 65536 0 0 x", "P 00 0", "P 0 00", "P 0 01",
+    "P 0 -", "P v0", "P 0 0 1 1", "P <inst+1> 1 0", "P <inst+1> 0 0 x", "P 00 0", "P 0 00", "P 0 01",
     "P 0 0 1 0",
     "F 2 2 2 1 0", "F 0 0 0 1 0", "F 99 99 999 99 99", "F 2 2 2 1", "F", "F 2 2 2 1 x",
     "T 0", "T 1", "T 2", "T", "T 0 0", "T v0", "T -", "B", "B 0", "B 1", "B 0 0 0 0 0 0 0 0 0",
@@ -52,14 +75,14 @@ const STEP_LINES: &[&str] = &[
     "R old 0", "#", "# S 0 0", "-", "0", "v0", "S 0 0 ", " S 0 0", "S  0 0", "S 0  0", "P 0 ",
     "B ", "B 0 ", "O 0 0 0 ", "M +0 0", "M -0 0", "M 0x0 0", "M 1e0 0", "M 00000 0", "M 000000 0",
     "M 00001 0", "M 99999 0", "M 100000 0", "M 4294967296 0", "M 18446744073709551616 0",
-    "M 65536 0", "M 256 0", "M 0.0 0", "M \u{0661} 0", "S 0 0\r", "B\r", "\r", "P 0\r",
+    "M <inst+1> 0", "M <vregs> 0", "M 0.0 0", "M \u{0661} 0", "S 0 0\r", "B\r", "\r", "P 0\r",
     "S\u{a0}0 0", "S 0 0\u{0}", "\u{0}", "S 0 \u{0}", "\u{feff}S 0 0", "\u{00e9}",
 ];
 
 /// Lines behind `HEAD_T`, where v1 alone is reference-typed.
 const CHANGE_LINES: &[&str] = &[
     "C 0 0 v0 v1", "C 0 0 v1 v0", "C 0 0 v1 v1", "C 0 0 v0 v2", "C 0 0 r0 v1", "C 0 0 v1 r0",
-    "C 0 0 r0 v0", "C 0 0 v1 v3", "C 0 0 v3 v1", "C 0 2 v0 v1", "C 65536 0 v0 v1", "C 65535 0 v0 v1",
+    "C 0 0 r0 v0", "C 0 0 v1 v3", "C 0 0 v3 v1", "C 0 2 v0 v1", "C <inst+1> 0 v0 v1", "C <inst> 0 v0 v1",
     "C 0 0 v0 v1 v1", "C 0 0 v0 v01", "C 0 0 r2 v1", "C 0 0 r1 v1", "T 2", "T 1", "T 0", "T 3",
 ];
 
@@ -73,14 +96,15 @@ const T_LINES: &[&str] = &[
 
 /// First lines.
 const F_LINES: &[&str] = &[
-    "F 32 0 0 1 0", "F 33 0 0 1 0", "F 0 32 0 1 0", "F 0 33 0 1 0", "F 0 0 256 1 0",
-    "F 0 0 257 1 0", "F 0 0 0 0 0", "F 0 0 0 1 0", "F 0 0 0 1 1", "F 0 0 0 2 1", "F 0 0 0 2 2",
-    "F 0 0 0 65 0", "F 0 0 0 65 64", "F 0 0 0 64 63", "F 0 0 0 64 64", "F 32 32 256 1 0",
-    "F 33 33 257 65 65", "F 99999 0 0 1 0", "F 100000 0 0 1 0", "F 0 0 0 1 99999", "F 0 0 0 1 00",
+    "F <regs> 0 0 1 0", "F <regs+1> 0 0 1 0", "F 0 <slots> 0 1 0", "F 0 <slots+1> 0 1 0", "F 0 0 <vregs> 1 0",
+    "F 0 0 <vregs+1> 1 0", "F 0 0 0 0 0", "F 0 0 0 1 0", "F 0 0 0 1 1", "F 0 0 0 2 1", "F 0 0 0 2 2",
+    "F 0 0 0 <blocks+1> 0", "F 0 0 0 <blocks+1> <blocks>", "F 0 0 0 <blocks> <blocks-1>", "F 0 0 0 <blocks> <blocks>",
+    "F <regs> <slots> <vregs> 1 0",
+    "F <regs+1> <slots+1> <vregs+1> <blocks+1> <blocks+1>", "F 99999 0 0 1 0", "F 100000 0 0 1 0", "F 0 0 0 1 99999", "F 0 0 0 1 00",
     "F 00 0 0 1 0", "F 01 0 0 1 0", "F 0 0 0 01 0", "F 0 0 0 1", "F 0 0 0 1 0 0", "F", "F ",
     "F 0 0 0 1 ", "F 0 0 0 1 0 ", "F r0 0 0 1 0", "F - 0 0 1 0", "f 0 0 0 1 0", "FF 0 0 0 1 0",
     "F  0 0 1 0", " F 0 0 0 1 0", "F 0 0 0 1 0\r", "T 0", "B", "B 0", "S 0 0", "L 0 0", "M 0 0",
-    "C 0 0 v0 v1", "O 0 0 0", "P 0", "S 0", "S 99 99", "T", "", "X 3 1", "R old 0", "F 32 32 256 64 0",
+    "C 0 0 v0 v1", "O 0 0 0", "P 0", "S 0", "S 99 99", "T", "", "X 3 1", "R old 0", "F <regs> <slots> <vregs> <blocks> 0",
     "F 2 2 2 1 0\nF 2 2 2 1 0", "F 2 2 2 1 0\nF 99 2 2 1 0", "F 2 2 2 1 0\nF 2 2 2 1",
     "F 0 0 1 1 0\nT 0", "F 0 0 0 1 0\nT 0", "F 0 0 1 1 0\nT 1",
 ];
@@ -108,7 +132,7 @@ fn line_sheets(head: &str, lines: &[&str], tail: &str) -> Vec<Vec<u8>> {
 /// What every run compares behind its generated sheets: those at the limits, and each set of numbers that the
 /// 1,025th step can break at once.
 pub fn always() -> Vec<Vec<u8>> {
-    let full = format!("{}{}", HEAD_T, "M 0 0\n".repeat(1_024));
+    let full = format!("{}{}", HEAD_T, "M 0 0\n".repeat(STEPS_LIMIT));
     let mut list = boundaries();
     for last in &[
         "S 2 0", "P 0 1 0", "O 0 1 r0 1 0", "C 0 0 v0 v1", "P 0 2 1", "O 0 1 r0 2 0", "C 0 2 v0 v1",
@@ -132,14 +156,14 @@ pub fn boundaries() -> Vec<Vec<u8>> {
     list
 }
 
-/// Operations with 7 to 10 uses and defs, and safepoints with 31 to 34 slots.
+/// Operations with around as many uses and defs as there may be, and safepoints with around as many slots.
 fn operand_counts() -> Vec<Vec<u8>> {
     let mut list = Vec::new();
-    let head = "F 32 32 256 1 0\nB\n";
+    let head = "F <regs> <slots> <vregs> 1 0\nB\n";
     let pairs = |letter: char, count: usize, first: usize| -> String {
         (0..count).map(|i| format!(" {}{} {}", letter, first + i, first + i)).collect()
     };
-    for count in 7..11 {
+    for count in OPERANDS_LIMIT - 1..OPERANDS_LIMIT + 3 {
         for letter in &['r', 'v'] {
             let many = pairs(*letter, count, 0);
             list.push(sheet(&format!("{}O 0 {}{} 0\n", head, count, many)));
@@ -152,20 +176,20 @@ fn operand_counts() -> Vec<Vec<u8>> {
         list.push(sheet(&format!("{}O 0 {}{} v0 0 0\n", head, count, pairs('v', count - 1, 0))));
         list.push(sheet(&format!("{}O 0 0 {}{} v0 0\n", head, count, pairs('v', count - 1, 0))));
         list.push(sheet(&format!("{}O 0 {}{} r9 0 0\n", head, count, pairs('r', count - 1, 0))));
-        list.push(sheet(&format!("{}O 0 {}{} v256 0 0\n", head, count, pairs('v', count - 1, 0))));
+        list.push(sheet(&format!("{}O 0 {}{} v<vregs> 0 0\n", head, count, pairs('v', count - 1, 0))));
     }
-    for count in 31..35 {
+    for count in SLOTS_LIMIT - 1..SLOTS_LIMIT + 3 {
         let slots: String = (0..count).map(|slot| format!(" {}", slot)).collect();
         let zeros: String = (0..count).map(|_| " 0".to_string()).collect();
         list.push(sheet(&format!("{}P 0{}\n", head, slots)));
         list.push(sheet(&format!("{}P 0{}\n", head, zeros)));
-        list.push(sheet(&format!("{}P 65536{}\n", head, zeros)));
+        list.push(sheet(&format!("{}P <inst+1>{}\n", head, zeros)));
     }
-    for name in &["v255", "v256", "r31", "r32"] {
-        list.push(sheet(&format!("{}C 0 31 {} v0\n", head, name)));
-        list.push(sheet(&format!("{}C 0 32 v0 {}\n", head, name)));
-        list.push(sheet(&format!("{}O 0 0 1 {} 31\n", head, name)));
-        list.push(sheet(&format!("{}O 0 1 {} 32 0\n", head, name)));
+    for name in &["v<vregs-1>", "v<vregs>", "r<regs-1>", "r<regs>"] {
+        list.push(sheet(&format!("{}C 0 <slots-1> {} v0\n", head, name)));
+        list.push(sheet(&format!("{}C 0 <slots> v0 {}\n", head, name)));
+        list.push(sheet(&format!("{}O 0 0 1 {} <regs-1>\n", head, name)));
+        list.push(sheet(&format!("{}O 0 1 {} <regs> 0\n", head, name)));
     }
     list
 }
@@ -187,29 +211,31 @@ fn byte_values() -> Vec<Vec<u8>> {
     list
 }
 
-/// 64 and 65 blocks, 1,024 and 1,025 steps, 65,536 and 65,537 bytes.
+/// As many blocks, steps and bytes as there may be, and one more.
 fn large_limits() -> Vec<Vec<u8>> {
     let mut list = Vec::new();
-    for &(said, lines) in &[(64, 63), (64, 64), (64, 65), (65, 65), (63, 64)] {
+    let blocks = BLOCKS_LIMIT as usize;
+    for &(said, lines) in &[(blocks, blocks - 1), (blocks, blocks), (blocks, blocks + 1), (blocks + 1, blocks + 1), (blocks - 1, blocks)] {
         list.push(sheet(&format!("F 1 1 1 {} {}\n{}", said, said - 1, "B 0\n".repeat(lines))));
     }
-    list.push(sheet(&format!("F 1 1 1 64 63\n{}B 63\n", "B 63\n".repeat(63))));
-    list.push(sheet(&format!("F 1 1 1 64 63\n{}B 64\n", "B 63\n".repeat(63))));
-    for &count in &[1_023usize, 1_024, 1_025] {
+    for last in &["B <blocks-1>\n", "B <blocks>\n"] {
+        list.push(sheet(&format!("F 1 1 1 <blocks> <blocks-1>\n{}{}", "B <blocks-1>\n".repeat(blocks - 1), last)));
+    }
+    for &count in &[STEPS_LIMIT - 1, STEPS_LIMIT, STEPS_LIMIT + 1] {
         list.push(sheet(&format!("{}{}", HEAD, "S 0 0\n".repeat(count))));
     }
-    let full = format!("{}{}", HEAD_T, "M 0 0\n".repeat(1_024));
+    let full = format!("{}{}", HEAD_T, "M 0 0\n".repeat(STEPS_LIMIT));
     for last in &[
         "", "L 0 0", "M 0 0", "O 0 0 0", "O 0 1 v0 - 0", "P 0", "C 0 0 v0 v2", "C 0 0 v0 v1", "S 2 0",
-        "S 0", "O 0 1 r0 1 0", "O 0 2 v0 0 v0 0 0", "P 0 1 0", "P 65536", "T 2", "B", "F 2 2 3 1 0",
+        "S 0", "O 0 1 r0 1 0", "O 0 2 v0 0 v0 0 0", "P 0 1 0", "P <inst+1>", "T 2", "B", "F 2 2 3 1 0",
         "O 0 1 r0 2 0", "C 0 0 v3 v1",
     ] {
         list.push(sheet(&format!("{}{}\n", full, last)));
     }
-    list.push(sheet(&format!("F 1 1 1 2 0\nB\n{}B\n", "S 0 0\n".repeat(1_024))));
-    list.push(sheet(&format!("F 1 1 1 2 0\nB\n{}B\nS 0 0\n", "S 0 0\n".repeat(1_024))));
-    list.push(sheet(&format!("F 1 1 1 2 0\nB\n{}", "S 0 0\n".repeat(1_024))));
-    list.push(sheet(&format!("F 1 1 1 2 0\nB\n{}", "S 0 0\n".repeat(1_025))));
+    list.push(sheet(&format!("F 1 1 1 2 0\nB\n{}B\n", "S 0 0\n".repeat(STEPS_LIMIT))));
+    list.push(sheet(&format!("F 1 1 1 2 0\nB\n{}B\nS 0 0\n", "S 0 0\n".repeat(STEPS_LIMIT))));
+    list.push(sheet(&format!("F 1 1 1 2 0\nB\n{}", "S 0 0\n".repeat(STEPS_LIMIT))));
+    list.push(sheet(&format!("F 1 1 1 2 0\nB\n{}", "S 0 0\n".repeat(STEPS_LIMIT + 1))));
     list.push(longest_report());
     list.push(of_length(SHEET_LIMIT));
     list.push(of_length(SHEET_LIMIT + 1));
@@ -222,20 +248,23 @@ fn large_limits() -> Vec<Vec<u8>> {
     list
 }
 
-/// One step that defines v254 in r31 and 1,023 that use v255 there, in block 63: the longest lines.
+/// One step that defines the last name but one in the last register and all others that use the last name there, in the last block:
+/// the longest lines.
 fn longest_report() -> Vec<u8> {
-    let blocks = "B\n".repeat(64);
-    let steps = "O 65535 1 v255 31 0\n".repeat(1_023);
-    sheet(&format!("F 32 32 256 64 63\n{}O 65535 0 1 v254 31\n{}", blocks, steps))
+    let blocks = "B\n".repeat(BLOCKS_LIMIT as usize);
+    let steps = "O <inst> 1 v<vregs-1> <regs-1> 0\n".repeat(STEPS_LIMIT - 1);
+    let first = "O <inst> 0 1 v<vregs-2> <regs-1>\n";
+    sheet(&format!("F <regs> <slots> <vregs> <blocks> <blocks-1>\n{}{}{}", blocks, first, steps))
 }
 
 /// A good sheet of exactly the given length: long operations behind two short lines, trimmed by their inst, so that no inst falls.
 pub fn of_length(length: usize) -> Vec<u8> {
-    let operands: String = (0..8).map(|i| format!(" v{} {}", 248 + i, 24 + i)).collect();
-    let long = |inst: &str| format!("O {} 8{} 8{}\n", inst, operands, operands);
+    let (names, regs) = (VREGS_LIMIT as usize - OPERANDS_LIMIT, REGS_LIMIT as usize - OPERANDS_LIMIT);
+    let operands: String = (0..OPERANDS_LIMIT).map(|i| format!(" v{} {}", names + i, regs + i)).collect();
+    let long = |inst: &str| format!("O {} {}{} {}{}\n", inst, OPERANDS_LIMIT, operands, OPERANDS_LIMIT, operands);
     let line = long("10000").len();
     let mut text = String::new();
-    let head = "F 32 32 256 1 0\nB\n";
+    let head = limited("F <regs> <slots> <vregs> 1 0\nB\n");
     while head.len() + text.len() + 3 * line < length {
         text += &long("10000");
     }
@@ -269,36 +298,37 @@ thread_local! {
 fn random_limit(random: &mut Random) -> Vec<u8> {
     match random.below(6) {
         0 => {
-            let blocks = random.within(62, 66);
-            let said = random.within(63, 65);
+            let limit = BLOCKS_LIMIT as usize;
+            let blocks = random.within(limit - 2, limit + 2);
+            let said = random.within(limit - 1, limit + 1);
             let lines: String =
                 (0..blocks).map(|_| format!("B {}\n", random.below(said))).collect();
             sheet(&format!("F 3 2 2 {} {}\n{}", said, random.below(said), lines))
         }
         1 => {
-            let count = random.within(1_022, 1_026);
+            let count = random.within(STEPS_LIMIT - 2, STEPS_LIMIT + 2);
             let last = *random.pick(&["S 0 0", "S 9 9", "P 0", "O 0 0 0", "Q"]);
             sheet(&format!("{}{}{}\n", HEAD, "L 0 0\n".repeat(count - 1), last))
         }
         2 => of_length(random.within(SHEET_LIMIT - 3, SHEET_LIMIT + 3)),
         3 => {
             // The longest reports: a fault in every step.
-            let inst = *random.pick(&[0, 65_535]);
-            let line = *random.pick(&["O {} 1 v255 31 0", "C {} 31 v254 v255", "P {} 31"]);
+            let inst = *random.pick(&[0, INST_LIMIT]);
+            let line = *random.pick(&["O {} 1 v<vregs-1> <regs-1> 0", "C {} <slots-1> v<vregs-2> v<vregs-1>", "P {} <slots-1>"]);
             let line = line.replace("{}", &inst.to_string());
-            let steps = (line + "\n").repeat(random.within(1_020, 1_024));
-            sheet(&format!("F 32 32 256 2 0\nB\nB\n{}", steps))
+            let steps = (line + "\n").repeat(random.within(STEPS_LIMIT - 4, STEPS_LIMIT));
+            sheet(&format!("F <regs> <slots> <vregs> 2 0\nB\nB\n{}", steps))
         }
         4 => {
             // Every register wrong in another way, at the far end of the names.
-            let base = random.number(248);
-            let uses: String = (0..8).map(|i| format!(" v{} {}", base + i, i)).collect();
-            let defs: String = (0..8).map(|i| format!(" v{} {}", base + i, 31 - i)).collect();
+            let base = random.number(VREGS_LIMIT - OPERANDS_LIMIT as u32);
+            let uses: String = (0..OPERANDS_LIMIT as u32).map(|i| format!(" v{} {}", base + i, i)).collect();
+            let defs: String = (0..OPERANDS_LIMIT as u32).map(|i| format!(" v{} {}", base + i, REGS_LIMIT - 1 - i)).collect();
             let inst = any_inst(random);
-            sheet(&format!("F 32 32 256 1 0\nB 0\nO {} 8{} 8{}\n", inst, uses, defs))
+            sheet(&format!("F <regs> <slots> <vregs> 1 0\nB 0\nO {} <operands>{} <operands>{}\n", inst, uses, defs))
         }
         _ => {
-            let count = random.within(7, 10);
+            let count = random.within(SUCCS_LIMIT - 1, SUCCS_LIMIT + 2);
             let blocks = random.within(1, 4);
             let succs: String = (0..count).map(|_| format!(" {}", random.below(blocks))).collect();
             let lines = format!("B{}\n", succs).repeat(blocks);
@@ -317,9 +347,9 @@ fn base(random: &mut Random) -> Sheet {
 }
 
 const TOKENS: &[&str] = &[
-    "", "0", "1", "2", "3", "4", "7", "8", "9", "31", "32", "33", "63", "64", "65", "255", "256",
-    "257", "65535", "65536", "99999", "100000", "00", "01", "-", "-1", "+1", "r0", "r1", "r2", "v0",
-    "v1", "v2", "v3", "r", "v", "r00", "v01", "r32", "v256", "x", "F", "T", "B", "S", "L", "M", "C",
+    "", "0", "1", "2", "3", "4", "<operands-1>", "<operands>", "<operands+1>", "<regs-1>", "<regs>", "<regs+1>", "<blocks-1>", "<blocks>",
+    "<blocks+1>", "<vregs-1>", "<vregs>", "<vregs+1>", "<inst>", "<inst+1>", "99999", "100000", "00", "01", "-", "-1", "+1", "r0", "r1", "r2", "v0",
+    "v1", "v2", "v3", "r", "v", "r00", "v01", "r<regs>", "v<vregs>", "x", "F", "T", "B", "S", "L", "M", "C",
     "O", "P", "0 ", " ", "\r", "0\r",
 ];
 
@@ -386,7 +416,7 @@ fn damage_field(random: &mut Random, bytes: &mut Vec<u8>) {
             fields[place] = fields[other].clone();
         }
         4 => fields[place].insert(0, b'0'),
-        _ => fields[place] = random.pick(TOKENS).as_bytes().to_vec(),
+        _ => fields[place] = limited(random.pick::<&str>(TOKENS)).into_bytes(),
     }
     lines[at] = fields.join(&b'\t');
     *bytes = lines.join(&b'\n');

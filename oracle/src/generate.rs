@@ -6,7 +6,9 @@ use crate::house::{house_effect, house_faults};
 use crate::plain::{old_effect, old_faults, Cell, State, Wrong};
 use crate::random::Random;
 use crate::report::Fault;
-use crate::sheet::{read, Block, Name, Operand, Sheet, Step, INST_LIMIT, OPERANDS_LIMIT, STEPS_LIMIT};
+use crate::sheet::{
+    read, Block, Name, Operand, Sheet, Step, BLOCKS_LIMIT, INST_LIMIT, OPERANDS_LIMIT, REGS_LIMIT, SLOTS_LIMIT, STEPS_LIMIT, SUCCS_LIMIT, VREGS_LIMIT,
+};
 
 pub const KINDS: [&str; 11] = [
     "small", "tangled", "knotted", "ordered", "large", "allocated", "repaired", "wrong-step",
@@ -109,7 +111,7 @@ pub fn small(random: &mut Random) -> Sheet {
     let shape = Shape {
         letters: [34, 20, 12, 8, 12, 14],
         steps: 5,
-        operands: if random.percent(10) { 8 } else { 2 },
+        operands: if random.percent(10) { OPERANDS_LIMIT } else { 2 },
         follow: *random.pick(&[30, 60, 85, 95]),
         missing,
     };
@@ -149,10 +151,10 @@ const ALLOCATED: Size = Size {
 
 /// The functions that bench/ times, but for their successors.
 const TIMED: Size = Size {
-    regs: (8, 32),
-    slots: (8, 32),
+    regs: (8, REGS_LIMIT as usize),
+    slots: (8, SLOTS_LIMIT as usize),
     names: (8, 64),
-    blocks: (40, 64),
+    blocks: (40, BLOCKS_LIMIT as usize),
     succs: &[3, 40, 45, 12],
     acts: 8,
 };
@@ -262,18 +264,18 @@ fn phrase(random: &mut Random, sheet: &Sheet, steps: &mut Vec<Step>) {
 
 pub fn large(random: &mut Random) -> Sheet {
     let mut sheet = Sheet {
-        regs: random.within(8, 32) as u32,
-        slots: random.within(8, 32) as u32,
-        vregs: random.within(32, 256) as u32,
+        regs: random.within(8, REGS_LIMIT as usize) as u32,
+        slots: random.within(8, SLOTS_LIMIT as usize) as u32,
+        vregs: random.within(32, VREGS_LIMIT as usize) as u32,
         ..Sheet::default()
     };
     choose_reftyped(random, &mut sheet);
-    let blocks = random.within(16, 64);
+    let blocks = random.within(16, BLOCKS_LIMIT as usize);
     graph(random, &mut sheet, blocks, &[5, 30, 40, 15, 4, 2, 2, 1, 1]);
     let shape = Shape {
         letters: [40, 14, 14, 10, 12, 10],
         steps: 24,
-        operands: 8,
+        operands: OPERANDS_LIMIT,
         follow: *random.pick(&[50, 90]),
         missing: 0,
     };
@@ -697,7 +699,7 @@ fn changed(random: &mut Random, mut sheet: Sheet) -> Sheet {
     if b.steps.is_empty() || random.percent(8) {
         match random.below(3) {
             0 if !b.succs.is_empty() => *b.succs.last_mut().unwrap() = random.number(blocks),
-            1 if b.succs.len() < 8 => b.succs.push(random.number(blocks)),
+            1 if b.succs.len() < SUCCS_LIMIT => b.succs.push(random.number(blocks)),
             _ => b.succs.reverse(),
         }
         return sheet;
