@@ -17,7 +17,7 @@ use Rattle.layout.specs.Layout.{blocks-word}
 use Rattle.walks.specs.Running.{run-suc}
 use Rattle.walks.specs.Passing.{PassedOn}
 use Rattle.walks.specs.Loop.{Standing, standing-room, standing-step, standing-begin, stopped-early}
-use Rattle.sheet.specs.Loaded.{sheet-of, Loaded}
+use Rattle.loaded.specs.Loaded.{sheet-of, Loaded}
 use Rattle.runs.specs.Held.{RunKept, held-state}
 use Rattle.runs.specs.Queue.{held, held-from}
 use Rattle.runs.specs.Table.{mark-of, Tabled}

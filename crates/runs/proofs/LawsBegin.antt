@@ -12,8 +12,9 @@ use Rattle.paper.specs.declared.Rule.{Rule}
 use Rattle.paper.specs.declared.Rule.the-variants.{Old, House}
 use Rattle.paper.specs.Limits.{max-blocks}
 use Rattle.layout.specs.Layout.{regs-word, slots-word, blocks-word, entry-word, state-at, mark-at}
-use Rattle.cells.specs.States.{state-of, RowsFit, Stored}
-use Rattle.sheet.specs.Loaded.{sheet-of, counts-in}
+use Rattle.cells.specs.States.{row-counts, state-of, RowsFit, Stored}
+use Rattle.cells.specs.declared.RowCounts.{RowCounts}
+use Rattle.loaded.specs.Loaded.{sheet-of, counts-in}
 use Rattle.runs.specs.Held.{RunKept}
 use Rattle.runs.specs.Queue.{Appended}
 use Rattle.runs.specs.Table.{Ready, Holds, mark-of, Tabled, Tables, Entered}
@@ -78,20 +79,24 @@ module _ {rule : Rule} {words₀ words : List ℕ} {b : ℕ} (ready : Ready word
         subst (λ (n : ℕ). Tabled rule (sheet-of words₀) n words (before rule (sheet-of words₀))) e (f .tabled);
   }
 
+pub regs-are : (words : List ℕ) (k : RowCounts) → row-counts k ≡ counts-in words → k .regs ≡ getD words regs-word 0
+regs-are words k e = ap (λ (counts : List ℕ). getD counts 0 0) e
+
 -- the entry has its state and waits
-pub begun : {rule : Rule} {words₀ words words′ queue queue′ : List ℕ} {ring : Ring} {s : List (List ℕ)} → Ready words₀ → RunKept words₀ words
+pub begun : {rule : Rule} {words₀ words words′ queue queue′ : List ℕ} {ring : Ring} {s : List (List ℕ)} {regs entry : ℕ} → Ready words₀
+    → regs ≡ getD words₀ regs-word 0 → entry ≡ getD words₀ entry-word 0 → RunKept words₀ words
     → Tables rule (sheet-of words₀) words (before rule (sheet-of words₀))
-    → Entered (getD words₀ entry-word 0) s words words′
-    → ((counts : List ℕ) → RowsFit counts → getD counts 0 0 ≡ getD words₀ regs-word 0 → state-of counts s ≡ entry-rows rule counts)
-    → Appended queue (record { head = 0; count = 0 }) (getD words₀ entry-word 0) queue′ ring
+    → Entered entry s words words′
+    → ((counts : List ℕ) → RowsFit counts → getD counts 0 0 ≡ regs → state-of counts s ≡ entry-rows rule counts)
+    → Appended queue (record { head = 0; count = 0 }) entry queue′ ring
     → Begins rule words₀ queue words′ queue′ ring
 unfolding begin sheet-of entry-state counts-of
-begun {rule} {words₀} {queue = queue} ready kept tables entered first app = record {
+begun {rule} {words₀} {queue = queue} ready r e kept tables entered first app = record {
   kept = kept-then _ _ kept (entered .kept) (omega arith) (omega arith) (omega arith) (omega arith);
   same-length = app .same-length;
   stands = record {
-    tables = rw (first (counts-of (sheet-of words₀)) (rows-fit (sheet-here ready)) refl) at (entered .tables rule (sheet-of words₀) _ tables);
+    tables = rw (first (counts-of (sheet-of words₀)) (rows-fit (sheet-here ready)) (sym r), e) at (entered .tables rule (sheet-of words₀) _ tables);
     sound = app .sound;
-    waiting = app .holds ∙ ap (λ (l : List ℕ). l ++ (getD words₀ entry-word 0 ∷ [])) (none-held queue 0);
+    waiting = rw e at (app .holds) ∙ ap (λ (l : List ℕ). l ++ (getD words₀ entry-word 0 ∷ [])) (none-held queue 0);
   };
 }

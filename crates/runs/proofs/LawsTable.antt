@@ -20,9 +20,9 @@ use Rattle.layout.specs.Layout.{regs-word, slots-word, blocks-word, state-words
 use Rattle.walks.specs.Choices.{pick-yes, pick-no, update-same, update-other}
 use Rattle.cells.specs.States.{state-of, stored-state, RowsFit, MetWith, Stored}
 use Rattle.cells.specs.Laws.{stored-stays}
-use Rattle.sheet.specs.Loaded.{sheet-of, counts-in}
+use Rattle.loaded.specs.Loaded.{sheet-of, counts-in}
 use Rattle.runs.specs.Held.{RunKept, held-state}
-use Rattle.runs.specs.Sheets.{sheet-stays, loaded-stays}
+use Rattle.loaded.specs.Sheets.{sheet-stays, loaded-stays}
 use Rattle.runs.specs.Table.{Ready, Holds, mark-of, unmarked, Tabled, Tables, joined, arrives, Came, Entered}
 
 -- only block b's words change

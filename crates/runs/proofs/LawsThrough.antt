@@ -10,10 +10,10 @@ use Rattle.paper.specs.Steps.{effects, counts-of}
 use Rattle.paper.specs.declared.Rule.{Rule}
 use Rattle.layout.specs.Layout.{regs-word, slots-word, blocks-word, state-at}
 use Rattle.cells.specs.States.{state-of, stored-state, RowsFit}
-use Rattle.steps.specs.Actions.{steps-at, Runnable, HonestSteps}
-use Rattle.sheet.specs.Loaded.{first-step, step-total, sheet-of, counts-in}
+use Rattle.loaded.specs.Actions.{steps-at, Runnable, HonestSteps}
+use Rattle.loaded.specs.Loaded.{first-step, step-total, sheet-of, counts-in}
 use Rattle.runs.specs.Held.{held-state}
-use Rattle.sheet.specs.Blocks.{steps-in-words}
+use Rattle.loaded.specs.Blocks.{steps-in-words}
 use Rattle.runs.specs.Allowed.{loaded-honest}
 use Rattle.runs.specs.Table.{Ready, Through}
 

@@ -13,10 +13,10 @@ use Rattle.paper.specs.Walks.{In, here, there}
 use Rattle.layout.specs.Layout.{regs-word, slots-word, blocks-word, opened-word, succ-base}
 use Rattle.walks.specs.Choices.{in-nil}
 use Rattle.walks.specs.Bounds.{Closed}
-use Rattle.steps.specs.Actions.{Runnable, HonestSteps}
-use Rattle.sheet.specs.Loaded.{first-step, step-total, succ-total, sheet-of, Loaded, counts-in}
-use Rattle.sheet.specs.Blocks.{succs-in-words, succs-beyond}
-use Rattle.sheet.specs.Allocated.{opened-block, in-range-at, honest-at}
+use Rattle.loaded.specs.Actions.{Runnable, HonestSteps}
+use Rattle.loaded.specs.Loaded.{first-step, step-total, succ-total, sheet-of, Loaded, counts-in}
+use Rattle.loaded.specs.Blocks.{succs-in-words, succs-beyond}
+use Rattle.loaded.specs.Allocated.{opened-block, in-range-at, honest-at}
 
 -- where an element of a list stands
 record Found (a : ℕ) (l : List ℕ) : Type 0 where

@@ -1,7 +1,6 @@
 pub mod Held
 pub mod Queue
 pub mod Table
-pub mod Sheets
 pub mod Allowed
 pub mod Stands
 pub mod Settled

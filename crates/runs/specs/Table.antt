@@ -14,7 +14,7 @@ use Rattle.paper.specs.Runs.{update, meet-states, state-same, entered}
 use Rattle.paper.specs.declared.Rule.{Rule}
 use Rattle.layout.specs.Layout.{mark-at, run-words}
 use Rattle.cells.specs.States.{state-of}
-use Rattle.sheet.specs.Loaded.{sheet-of, Loaded}
+use Rattle.loaded.specs.Loaded.{sheet-of, Loaded}
 use Rattle.runs.specs.Held.{RunKept, held-state}
 
 -- the words hold a loaded sheet, and have room for its run

@@ -10,7 +10,7 @@ ghost use Rattle.paper.specs.Runs as paper-runs;
 ghost use Rattle.layout.specs.Layout.{blocks-word, run-words};
 ghost use Rattle.cells.specs.Meeting.{meet-table};
 ghost use Rattle.cells.specs.States.{state-of};
-ghost use Rattle.sheet.specs.Loaded.{sheet-of, Loaded};
+ghost use Rattle.loaded.specs.Loaded.{sheet-of, Loaded};
 ghost use Rattle.paper.specs.Steps.{counts-of};
 ghost use Rattle.runs.specs.Held.{RunKept};
 ghost use Rattle.runs.specs.Queue.{place, Sound, Appended, Taken};
@@ -18,19 +18,11 @@ ghost use Rattle.runs.specs.Table.{Ready, mark-of, Tables, Came, Entered
 ghost use Rattle.runs.specs.Stands.{Begins, Continues, Moved, Analysed};
 ghost use Rattle.runs.specs.Settled.{Unsettled, Visited};
 use cells::State;
-use layout::BLOCK_BASE;
-use layout::BLOCK_WORDS;
-use layout::BLOCKS_WORD;
-use layout::ENTRY_WORD;
 use layout::MARK_BASE;
 use layout::MAX_BLOCKS;
 use layout::QUEUE_SIZE;
-use layout::REGS_WORD;
 use layout::STATE_BASE;
 use layout::STATE_WORDS;
-use layout::STEP_TOTAL_WORD;
-use layout::SUCC_TOTAL_WORD;
-use layout::SUCCS_FROM;
 use paper::Rule;
 
 // The blocks that wait: `count` bytes of the queue from `head` on, round its end.
@@ -95,7 +87,7 @@ fn enter(words: &mut [u16], b: usize, s: State)
     requires { ⌜ Ready (now words) × (b < getD (now words) blocks-word 0) ⌝ }
     ensures { λ r. ⌜ Entered b s (now (words .entry)) (now (words .exit)) ⌝ }
 {
-    let counts = sheet::row_counts(words);
+    let counts = loaded::row_counts(words);
     cells::store(words, STATE_BASE + b * STATE_WORDS, s, counts);
     words[MARK_BASE + b] = 1;
 }
@@ -105,8 +97,8 @@ fn begin_blocks(rule: Rule, words: &mut [u16])
     requires { ⌜ Ready (now words) ⌝ }
     ensures { λ r. ⌜ RunKept (now (words .entry)) (now (words .exit)) × Tables rule (sheet-of (now (words .entry))) (now (words .exit)) (paper-runs.before rule (sheet-of (now (words .entry)))) ⌝ }
 {
-    let counts = sheet::row_counts(words);
-    let blocks = words[BLOCKS_WORD] as usize;
+    let counts = loaded::row_counts(words);
+    let blocks = loaded::blocks(words);
     let s = cells::unreached_state(rule);
     let mut b = 0;
     while b < blocks {
@@ -121,10 +113,10 @@ fn begin(rule: Rule, words: &mut [u16], queue: &mut [u8]) -> Ring
     requires { ⌜ Ready (now words) × (queue-size ≤ length (now queue)) ⌝ }
     ensures { λ r. ⌜ Begins rule (now (words .entry)) (now (queue .entry)) (now (words .exit)) (now (queue .exit)) r ⌝ }
 {
-    let regs = words[REGS_WORD] as usize;
-    let entry = words[ENTRY_WORD];
+    let counts = loaded::row_counts(words);
+    let entry = loaded::entry(words);
     begin_blocks(rule, words);
-    enter(words, entry as usize, cells::entry_state(rule, regs));
+    enter(words, entry, cells::entry_state(rule, counts.regs));
     append(queue, Ring { head: 0, count: 0 }, entry as u8)
 }
 
@@ -137,7 +129,7 @@ fn join(table: &[[[u8; 4]; 4]; 2], rule: Rule, words: &mut [u16], b: usize, s: S
         enter(words, b, s);
         return true;
     }
-    let counts = sheet::row_counts(words);
+    let counts = loaded::row_counts(words);
     cells::meet_with(table, rule, words, STATE_BASE + b * STATE_WORDS, s, counts)
 }
 
@@ -169,9 +161,8 @@ fn through(rule: Rule, words: &[u16], b: usize) -> State
     ensures { λ r. ⌜ Through rule b (now (words .entry)) r ⌝ }
 {
     let s = cells::load(words, STATE_BASE + b * STATE_WORDS);
-    let at = BLOCK_BASE + b * BLOCK_WORDS;
-    let first = words[at] as usize;
-    let count = words[at + STEP_TOTAL_WORD] as usize;
+    let first = loaded::first_step(words, b);
+    let count = loaded::step_total(words, b);
     steps::effects(words, rule, s, first, count)
 }
 
@@ -196,11 +187,10 @@ fn visit(
     }
     settled[b] = 1;
     let result = through(rule, words, b);
-    let at = BLOCK_BASE + b * BLOCK_WORDS;
-    let total = words[at + SUCC_TOTAL_WORD] as usize;
+    let total = loaded::succ_total(words, b);
     let mut i = 0;
     while i < total {
-        let s = words[at + SUCCS_FROM + i] as usize;
+        let s = loaded::successor(words, b, i);
         let next = push(table, rule, words, queue, settled, waiting, s, result);
         waiting = next;
         i += 1;

@@ -5,7 +5,7 @@ use Rattle.runs.proofs.enter.Tie as tie
 use Rattle.runs.proofs.enter.Reads as reads
 use Rattle.runs.proofs.enter.Lts as lts
 use Rattle.cells.proofs.store.Reads as store-reads
-use Rattle.sheet.proofs.row_counts.Reads as row-counts-reads
+use Rattle.loaded.proofs.row_counts.Reads as row-counts-reads
 use Rattle.runs.proofs.LawsTable.{counts-fit, entered-is}
 
 -- src/lib.rt:98:9

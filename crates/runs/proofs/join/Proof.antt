@@ -6,7 +6,7 @@ use Rattle.runs.proofs.join.Reads as reads
 use Rattle.runs.proofs.join.Lts as lts
 use Rattle.cells.proofs.meet_with.Reads as meet-with-reads
 use Rattle.runs.proofs.enter.Reads as enter-reads
-use Rattle.sheet.proofs.row_counts.Reads as row-counts-reads
+use Rattle.loaded.proofs.row_counts.Reads as row-counts-reads
 use Rattle.runs.proofs.LawsTable.{counts-fit, came-first, came-again}
 
 -- src/lib.rt:136:14
