@@ -26,15 +26,15 @@ use Rattle.walks.specs.Loop.{standing-room, standing-below, standing-visited, s
 use Rattle.cells.specs.States.{state-of, Narrow}
 use Rattle.loaded.specs.Loaded.{succ-total, sheet-of, BlockBounds}
 use Rattle.loaded.specs.Blocks.{succs-in-words}
-use Rattle.runs.specs.Held.{held-state}
+use Rattle.tables.specs.Held.{held-state}
 use Rattle.runs.specs.Queue.{held, Sound, Taken}
-use Rattle.runs.specs.Table.{Ready, Holds, mark-of, arrives, Through}
+use Rattle.tables.specs.Table.{Ready, Holds, mark-of, arrives, Through}
 use Rattle.runs.specs.Stands.{Stands, Continues, Moved}
 use Rattle.runs.specs.declared.Ring.{Ring}
 use Rattle.runs.specs.Settled.{Settled, unsettled, Unsettled, Visited}
 use Rattle.runs.proofs.LawsQueue.{length-held}
 use Rattle.runs.proofs.LawsSettled.{push-passing, passing-first}
-use Rattle.runs.proofs.LawsTable.{marked, blocks-are, few-blocks, rows-fit, ready-stays}
+use Rattle.tables.specs.Laws.{marked, blocks-are, few-blocks, rows-fit, ready-stays}
 
 -- inside a visit, whose block has its successors from `from` on: the first i have been served
 pub record Serving (rule : Rule) (words₀ queue₀ : List ℕ) (ring₀ : Ring) (s : List (List ℕ)) (from total : ℕ) (words queue : List ℕ) (ring : Ring) (i : ℕ) : Type 0 where

@@ -15,9 +15,9 @@ use Rattle.walks.specs.Bounds.{Closed}
 use Rattle.walks.specs.Loop.{Standing}
 use Rattle.cells.specs.States.{stored-state}
 use Rattle.loaded.specs.Loaded.{sheet-of, Loaded, counts-in}
-use Rattle.runs.specs.Held.{RunKept, held-state}
+use Rattle.tables.specs.Held.{RunKept, held-state}
 use Rattle.runs.specs.Queue.{held, Sound}
-use Rattle.runs.specs.Table.{mark-of, Tables}
+use Rattle.tables.specs.Table.{mark-of, Tables}
 use Rattle.loaded.specs.Sheets.{sheet-stays, loaded-stays}
 use Rattle.runs.specs.declared.Ring.{Ring}
 

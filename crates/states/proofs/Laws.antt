@@ -25,7 +25,7 @@ use Rattle.cells.specs.declared.RowCounts.{RowCounts}
 use Rattle.report.specs.Lengths.{name-short}
 use Rattle.faults.specs.Blocks.{by-block-more}
 use Rattle.loaded.specs.Loaded.{sheet-of, counts-in}
-use Rattle.runs.specs.Table.{mark-of}
+use Rattle.tables.specs.Table.{mark-of}
 use Rattle.states.specs.EntryStates.{mark-text, cell-text, cell-texts, visited-text, letter-D, block-text}
 use Rattle.states.specs.Stated.{HoldsStates, tabbed, row-text, head-text, longest-cell}
 

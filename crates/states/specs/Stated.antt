@@ -14,7 +14,7 @@ use Rattle.layout.specs.Layout.{regs-word, slots-word, blocks-word, state-at, m
 use Rattle.cells.specs.Packed.{cell-of}
 use Rattle.cells.specs.States.{stored-state}
 use Rattle.loaded.specs.Loaded.{sheet-of, Loaded, counts-in}
-use Rattle.runs.specs.Table.{mark-of}
+use Rattle.tables.specs.Table.{mark-of}
 use Rattle.states.specs.EntryStates.{cell-text, letter-D, entry-states}
 use Rattle.states.specs.declared.Part.{Part}
 use Rattle.states.specs.declared.Part.the-variants.{Answer, States}

@@ -13,7 +13,7 @@ ghost use Rattle.paper.specs.Report.{by-block};
 ghost use Rattle.layout.specs.Layout.{blocks-word};
 ghost use Rattle.cells.specs.Packed.{name-of-word, marked, cell-of};
 ghost use Rattle.loaded.specs.Loaded.{sheet-of};
-ghost use Rattle.runs.specs.Table.{mark-of};
+ghost use Rattle.tables.specs.Table.{mark-of};
 ghost use Rattle.checker.specs.Checked.{lent, Stated};
 ghost use Rattle.states.specs.EntryStates as text;
 ghost use Rattle.states.specs.Stated.{part-text, Written, HoldsStates, row-text, head-text, longest-cell, longest-head, longest-line, longest-text};

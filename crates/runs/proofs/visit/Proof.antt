@@ -8,6 +8,8 @@ use lib.ListN.{getD}
 use Rattle.layout.specs.Layout.{succ-base}
 use Rattle.loaded.specs.Loaded.{succ-total}
 use Rattle.runs.specs.Queue.{Taken}
+use Rattle.runs.proofs.LawsPush.{pushed}
+use Rattle.runs.proofs.LawsSettled.{unsettled-came}
 use Rattle.runs.proofs.LawsVisit.{Serving, serving-none, serving-more, Settling, settling-none, settling-more, visited-settled, visited-run, still-allocated, first-below, Visiting, visiting, serving-ready, serving-block, serving-sound, serving-room}
 use Rattle.runs.proofs.visit.Statement.{statement}
 use Rattle.runs.proofs.visit.Tie as tie
@@ -82,9 +84,9 @@ successor-requires c κs =
     let v = visited (through-of i) in
     (omega (arith, v .size, i .before .loop .inv .0 .moved .kept .same-length), v .small, omega (arith, v .succs, served i))
 
-push-requires : tie.Need-push-requires Inv-loop μ-loop
-push-requires c κs =
-    let n = c .before .before .before in
+join-requires : tie.Need-join-requires Inv-loop μ-loop
+join-requires c κs =
+    let n = c .before in
     let i = n .before .before in
     let h = through-of i in
     let t = take-of h in
@@ -93,11 +95,23 @@ push-requires c κs =
     let k = taken t in
     let s = i .before .loop .inv .0 in
     let w = h .through .ensures in
-    (a .pre .0, serving-ready g k w s, omega (arith, n .successor .ensures, serving-block g k w s (served i)), serving-sound g k w s, serving-room g k w s)
+    (a .pre .0, serving-ready g k w s, omega (arith, n .successor .ensures, serving-block g k w s (served i)))
+
+wait-requires : tie.Need-wait-requires Inv-loop μ-loop
+wait-requires c κs =
+    let n = c .before .before .before .before .before .before in
+    let i = n .before .before in
+    let h = through-of i in
+    let t = take-of h in
+    let g = start-of t .pre .1 in
+    let k = taken t in
+    let s = i .before .loop .inv .0 in
+    let w = h .through .ensures in
+    (serving-sound g k w s, serving-room g k w s, omega (arith, n .successor .ensures, serving-block g k w s (served i), serving-ready g k w s .loaded .bounds .blocks))
 
 add-i : tie.Need-add-i Inv-loop μ-loop
 add-i c =
-    let i = c .before .before .before .before .before .before .before .before .before .before in
+    let i = c .before .before .before .before .before .before .before .before .before .before .before in
     let v = visited (through-of i) in
     omega (arith, v .succs, served i)
 
@@ -106,14 +120,16 @@ loop-less c = search needs
 
 loop-again : tie.Need-loop-again Inv-loop μ-loop
 loop-again c =
-    let p = c .before .before .before .before in
-    let n = p .before .before .before .before in
+    let p = c .before .before in
+    let j = p .before .before .before .before .before in
+    let n = j .before .before in
     let i = n .before .before in
     let v = visited (through-of i) in
     let inv = i .before .loop .inv in
-    let e = n .successor .ensures in (
-      serving-more (inv .0) (served i) (omega (arith, v .small, v .succs)) (omega (arith, v .small, v .succs, v .size)) e (p .push .ensures .0),
-      settling-more (inv .0) (inv .1) (served i) (omega (arith, v .small, v .succs)) (omega (arith, v .small, v .succs, v .size)) e (p .push .ensures .1),
+    let e = n .successor .ensures in
+    let came = j .join .ensures in (
+      serving-more (inv .0) (served i) (omega (arith, v .small, v .succs)) (omega (arith, v .small, v .succs, v .size)) e (pushed _ came (p .wait .ensures .0)),
+      settling-more (inv .0) (inv .1) (served i) (omega (arith, v .small, v .succs)) (omega (arith, v .small, v .succs, v .size)) e (unsettled-came came (p .wait .ensures .1)),
     )
 
 same-length : tie.Need-same-length Inv-loop μ-loop
@@ -145,7 +161,8 @@ visit-spec =
     succ-total-requires
     loop-holds
     successor-requires
-    push-requires
+    join-requires
+    wait-requires
     add-i
     loop-less
     loop-again

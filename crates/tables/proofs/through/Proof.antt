@@ -7,10 +7,10 @@ use Rattle.layout.specs.Layout.{block-base, block-words}
 use Rattle.loaded.specs.Actions.{Runnable}
 use Rattle.loaded.specs.Laws.{runnable-most}
 use Rattle.loaded.specs.Loaded.{first-step, step-total, counts-in}
-use Rattle.runs.specs.Allowed.{loaded-runnable}
-use Rattle.runs.proofs.LawsThrough.{through-is}
-use Rattle.runs.proofs.through.Statement.{statement}
-use Rattle.runs.proofs.through.Tie as tie
+use Rattle.tables.specs.Allowed.{loaded-runnable}
+use Rattle.tables.proofs.LawsThrough.{through-is}
+use Rattle.tables.proofs.through.Statement.{statement}
+use Rattle.tables.proofs.through.Tie as tie
 
 mul-load : tie.Need-mul-load
 mul-load c = search needs

@@ -1,12 +1,12 @@
 use native.Mathlib.Omega.{arith}
 use borrow.Author.Needs.{needs}
-use Rattle.runs.proofs.enter.Statement.{statement}
-use Rattle.runs.proofs.enter.Tie as tie
-use Rattle.runs.proofs.enter.Reads as reads
-use Rattle.runs.proofs.enter.Lts as lts
+use Rattle.tables.proofs.enter.Statement.{statement}
+use Rattle.tables.proofs.enter.Tie as tie
+use Rattle.tables.proofs.enter.Reads as reads
+use Rattle.tables.proofs.enter.Lts as lts
 use Rattle.cells.proofs.store.Reads as store-reads
 use Rattle.loaded.proofs.row_counts.Reads as row-counts-reads
-use Rattle.runs.proofs.LawsTable.{counts-fit, entered-is}
+use Rattle.tables.specs.Laws.{counts-fit, entered-is}
 
 -- src/lib.rt:98:9
 row-counts-requires : tie.Need-row-counts-requires

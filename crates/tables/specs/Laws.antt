@@ -1,14 +1,13 @@
 -- One block's state and mark change: what becomes of the table that stands in the words.
-use mathlib.Core.Path.{_≡_, refl, sym, ap, ap₂, subst, _∙_}
+use mathlib.Core.Path.{_≡_, refl, sym, ap, subst, _∙_}
 use mathlib.Core.Bool.{Bool, true, false}
-use mathlib.Core.List.{List, [], _∷_, map}
+use mathlib.Core.List.{List}
 use mathlib.Core.Option.{Option, none, some}
-use Prim.Native.Nat.{ℕ, _+_, _*_, _≤_, _<_}
+use Prim.Native.Nat.{ℕ, _+_, _≤_, _<_}
 use native.Mathlib.Decide.{ℕ-discrete}
 use native.Mathlib.Omega.{arith}
-use lib.ListN.{length, getD, set, length-set}
+use lib.ListN.{getD, set, length-set}
 use lib.Seq.{getD-set-same, getD-set-other}
-use Rattle.lists.specs.Region.{region, same-region}
 use Rattle.lists.specs.Kept.{Kept, kept-wider, kept-set, kept-then}
 use Rattle.lists.specs.Split.{by-order}
 use Rattle.paper.specs.Sheet.{Sheet}
@@ -16,14 +15,14 @@ use Rattle.paper.specs.Steps.{State, counts-of}
 use Rattle.paper.specs.Runs.{update, meet-states, state-same, entered}
 use Rattle.paper.specs.declared.Rule.{Rule}
 use Rattle.paper.specs.Limits.{max-blocks}
-use Rattle.layout.specs.Layout.{regs-word, slots-word, blocks-word, state-words, state-at, mark-at}
+use Rattle.layout.specs.Layout.{blocks-word, state-words, state-at, mark-at}
 use Rattle.walks.specs.Choices.{pick-yes, pick-no, update-same, update-other}
 use Rattle.cells.specs.States.{state-of, stored-state, RowsFit, MetWith, Stored}
 use Rattle.cells.specs.Laws.{stored-stays}
 use Rattle.loaded.specs.Loaded.{sheet-of, counts-in}
-use Rattle.runs.specs.Held.{RunKept, held-state}
+use Rattle.tables.specs.Held.{RunKept, held-state}
 use Rattle.loaded.specs.Sheets.{sheet-stays, loaded-stays}
-use Rattle.runs.specs.Table.{Ready, Holds, mark-of, unmarked, Tabled, Tables, joined, arrives, Came, Entered}
+use Rattle.tables.specs.Table.{Ready, Holds, mark-of, unmarked, Tabled, Tables, joined, arrives, Came, Entered}
 
 -- only block b's words change
 pub record Alone (b : ℕ) (words words′ : List ℕ) : Type 0 where
@@ -67,6 +66,10 @@ module _ {S : Sheet} {words : List ℕ} (sheet : Holds S words) where
 
   pub rows-fit : RowsFit (counts-of S)
   rows-fit = counts-fit (counts-of S) (sheet .ready) counts-are
+
+-- a loaded sheet is the one that its words hold
+pub sheet-here : {words : List ℕ} → Ready words → Holds (sheet-of words) words
+sheet-here r = record { ready = r; is = refl }
 
 pub ready-stays : {words words′ : List ℕ} → RunKept words words′ → Ready words → Ready words′
 ready-stays kept r = record { loaded = loaded-stays kept (r .loaded); room = rw (kept .same-length) (r .room) }

@@ -2,9 +2,9 @@
 use mathlib.Core.Path.{refl}
 use borrow.Author.Needs.{needs}
 use Rattle.paper.specs.Runs.{before}
-use Rattle.runs.specs.Table.{mark-of}
-use Rattle.runs.proofs.first_mark.Statement.{statement}
-use Rattle.runs.proofs.first_mark.Tie as tie
+use Rattle.tables.specs.Table.{mark-of}
+use Rattle.tables.proofs.first_mark.Statement.{statement}
+use Rattle.tables.proofs.first_mark.Tie as tie
 
 enum-told : tie.Need-enum-told
 enum-told c = search needs

@@ -1,13 +1,13 @@
 use native.Mathlib.Omega.{arith}
 use borrow.Author.Needs.{needs}
-use Rattle.runs.proofs.join.Statement.{statement}
-use Rattle.runs.proofs.join.Tie as tie
-use Rattle.runs.proofs.join.Reads as reads
-use Rattle.runs.proofs.join.Lts as lts
+use Rattle.tables.proofs.join.Statement.{statement}
+use Rattle.tables.proofs.join.Tie as tie
+use Rattle.tables.proofs.join.Reads as reads
+use Rattle.tables.proofs.join.Lts as lts
 use Rattle.cells.proofs.meet_with.Reads as meet-with-reads
-use Rattle.runs.proofs.enter.Reads as enter-reads
+use Rattle.tables.proofs.enter.Reads as enter-reads
 use Rattle.loaded.proofs.row_counts.Reads as row-counts-reads
-use Rattle.runs.proofs.LawsTable.{counts-fit, came-first, came-again}
+use Rattle.tables.specs.Laws.{counts-fit, came-first, came-again}
 
 -- src/lib.rt:136:14
 add-if1 : tie.Need-add-if1

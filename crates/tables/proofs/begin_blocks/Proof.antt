@@ -1,10 +1,10 @@
-use Rattle.runs.proofs.begin_blocks.Statement.{statement}
-use Rattle.runs.proofs.begin_blocks.Tie as tie
-use Rattle.runs.proofs.begin_blocks.Reads as reads
-use Rattle.runs.proofs.begin_blocks.Lts as lts
+use Rattle.tables.proofs.begin_blocks.Statement.{statement}
+use Rattle.tables.proofs.begin_blocks.Tie as tie
+use Rattle.tables.proofs.begin_blocks.Reads as reads
+use Rattle.tables.proofs.begin_blocks.Lts as lts
 use Rattle.cells.proofs.store.Reads as store-reads
 use Rattle.cells.proofs.unreached_state.Reads as unreached-state-reads
-use Rattle.runs.proofs.first_mark.Reads as first-mark-reads
+use Rattle.tables.proofs.first_mark.Reads as first-mark-reads
 use Rattle.loaded.proofs.row_counts.Reads as row-counts-reads
 use mathlib.Core.Path.{_≡_}
 use Prim.Native.Nat.{_-_}
@@ -12,8 +12,8 @@ use lib.ListN.{getD}
 use Rattle.layout.specs.Layout.{blocks-word}
 use native.Mathlib.Omega.{arith}
 use borrow.Author.Needs.{needs}
-use Rattle.runs.proofs.LawsTable.{counts-fit}
-use Rattle.runs.proofs.LawsBegin.{Filled, filled-none, filled-more, filled-all}
+use Rattle.tables.specs.Laws.{counts-fit}
+use Rattle.tables.proofs.LawsFilled.{Filled, filled-none, filled-more, filled-all}
 
 abbrev Inv-loop : tie.InvT-loop
 Inv-loop rule words₀ counts blocks s b₀ words b = Filled rule words₀ words b

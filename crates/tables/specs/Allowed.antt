@@ -10,7 +10,7 @@ use Rattle.lists.specs.Split.{by-order}
 use Rattle.paper.specs.Sheet.{succs-of, reference-typed}
 use Rattle.paper.specs.Report.{missing-allocations}
 use Rattle.paper.specs.Walks.{In, here, there}
-use Rattle.layout.specs.Layout.{regs-word, slots-word, blocks-word, opened-word, succ-base}
+use Rattle.layout.specs.Layout.{blocks-word, opened-word, succ-base}
 use Rattle.walks.specs.Choices.{in-nil}
 use Rattle.walks.specs.Bounds.{Closed}
 use Rattle.loaded.specs.Actions.{Runnable, HonestSteps}

@@ -1,21 +1,21 @@
 -- What a block makes of the state that it holds.
 use mathlib.Core.Path.{_≡_, sym, ap, subst, _∙_}
 use mathlib.Core.Bool.{Bool}
-use mathlib.Core.List.{List, [], _∷_}
+use mathlib.Core.List.{List}
 use Prim.Native.Nat.{ℕ, _<_}
 use lib.ListN.{getD}
 use Rattle.paper.specs.Text.{Name}
 use Rattle.paper.specs.Sheet.{Sheet, steps-of, reference-typed}
 use Rattle.paper.specs.Steps.{effects, counts-of}
 use Rattle.paper.specs.declared.Rule.{Rule}
-use Rattle.layout.specs.Layout.{regs-word, slots-word, blocks-word, state-at}
+use Rattle.layout.specs.Layout.{blocks-word, state-at}
 use Rattle.cells.specs.States.{state-of, stored-state, RowsFit}
 use Rattle.loaded.specs.Actions.{steps-at, Runnable, HonestSteps}
 use Rattle.loaded.specs.Loaded.{first-step, step-total, sheet-of, counts-in}
-use Rattle.runs.specs.Held.{held-state}
+use Rattle.tables.specs.Held.{held-state}
 use Rattle.loaded.specs.Blocks.{steps-in-words}
-use Rattle.runs.specs.Allowed.{loaded-honest}
-use Rattle.runs.specs.Table.{Ready, Through}
+use Rattle.tables.specs.Allowed.{loaded-honest}
+use Rattle.tables.specs.Table.{Ready, Through}
 
 pub through-is : {rule : Rule} {words : List ℕ} {b : ℕ} (s : List (List ℕ)) {t : List (List ℕ)} → Ready words → b < getD words blocks-word 0
     → ((counts : List ℕ) → RowsFit counts → state-of counts s ≡ stored-state counts (state-at b) words)

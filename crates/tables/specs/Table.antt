@@ -15,7 +15,7 @@ use Rattle.paper.specs.declared.Rule.{Rule}
 use Rattle.layout.specs.Layout.{mark-at, run-words}
 use Rattle.cells.specs.States.{state-of}
 use Rattle.loaded.specs.Loaded.{sheet-of, Loaded}
-use Rattle.runs.specs.Held.{RunKept, held-state}
+use Rattle.tables.specs.Held.{RunKept, held-state}
 
 -- the words hold a loaded sheet, and have room for its run
 pub record Ready (words : List ℕ) : Type 0 where
