@@ -20,7 +20,7 @@ use Rattle.paper.specs.declared.Refusal.{Refusal}
 use Rattle.paper.specs.declared.Answer.the-variants.{Refused}
 use Rattle.layout.specs.Layout.{state-at}
 use Rattle.walks.specs.Reading.{read-few}
-use Rattle.sheet.specs.Loaded.{sheet-of, Loaded}
+use Rattle.loaded.specs.Loaded.{sheet-of, Loaded}
 use Rattle.sheet.specs.Reading.{loading-of, Load}
 use Rattle.sheet.specs.declared.Loading as Loading
 use Rattle.sheet.specs.declared.Loading.the-variants as loading

@@ -8,7 +8,7 @@ use Rattle.paper.specs.Text.{Bytes}
 use Rattle.paper.specs.Limits.{report-size, max-sheet, max-steps}
 use Rattle.paper.specs.Refusals.{step-count}
 use Rattle.paper.specs.Answer.{Said, turned-away, written, Lent, too-short, laid, zeros, answer-of, report-of, Outcome, outcome}
-use Rattle.sheet.specs.Loaded.{sheet-of}
+use Rattle.loaded.specs.Loaded.{sheet-of}
 use Rattle.paper.specs.declared.Rule.{Rule}
 use Rattle.paper.specs.declared.Rule.the-variants.{Old, House}
 use Rattle.paper.specs.declared.Refusal.{Refusal}

@@ -6,7 +6,7 @@ ghost use Rattle.lists.specs.Sets.{Wrote};
 ghost use Rattle.paper.specs.Limits.{report-size, words-size, queue-size};
 ghost use Rattle.paper.specs.Report.{faults};
 ghost use Rattle.paper.specs.Answer as paper-answer;
-ghost use Rattle.sheet.specs.Loaded.{sheet-of, Loaded};
+ghost use Rattle.loaded.specs.Loaded.{sheet-of, Loaded};
 ghost use Rattle.checker.specs.Checked.{lent, Few, refusal-text, RefusalWithin, Answered, Checked, Stated, verdict-of, rule-of, Exported};
 use faults::Missing;
 use layout::QUEUE_SIZE;

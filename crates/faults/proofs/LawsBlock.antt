@@ -14,12 +14,12 @@ use Rattle.paper.specs.Report.{Line, inst-of, faults-from, block-faults, by-blo
 use Rattle.paper.specs.declared.Rule.{Rule}
 use Rattle.layout.specs.Layout.{blocks-word, opened-word, steps-word, state-base, state-words, all-words}
 use Rattle.cells.specs.States.{state-of, stored-state, RowsFit}
-use Rattle.steps.specs.Actions.{step-of, action-at, steps-at, RoomFor}
-use Rattle.steps.specs.Laws.{room-within}
-use Rattle.steps.specs.Same.{length-steps, steps-more}
-use Rattle.steps.specs.declared.Action.{Action}
-use Rattle.sheet.specs.Loaded.{first-step, step-total, sheet-of, Loaded, counts-in}
-use Rattle.sheet.specs.Blocks.{steps-in-words}
+use Rattle.loaded.specs.Actions.{step-of, action-at, steps-at, RoomFor}
+use Rattle.loaded.specs.Laws.{room-within}
+use Rattle.loaded.specs.Same.{length-steps, steps-more}
+use Rattle.loaded.specs.declared.Action.{Action}
+use Rattle.loaded.specs.Loaded.{first-step, step-total, sheet-of, Loaded, counts-in}
+use Rattle.loaded.specs.Blocks.{steps-in-words}
 use Rattle.faults.specs.Errors.{line-at}
 use Rattle.faults.specs.Blocks.{by-block-more}
 use Rattle.faults.specs.Passes.{AfterPass}

@@ -18,10 +18,10 @@ use Rattle.paper.specs.Cells.{Cell, absent, unknown, conflicted, named, pick}
 use Rattle.paper.specs.Steps.{State, slot, get, Fault, first-of, check-use, check-uses, check-change, check-slot, check-slots, check}
 use Rattle.paper.specs.Steps as fault
 use Rattle.layout.specs.Layout.{row-widths}
-use Rattle.steps.specs.Actions.{no-register, register-of, operand-of, operands, step-of, InRange}
+use Rattle.loaded.specs.Actions.{no-register, register-of, operand-of, operands, step-of, InRange}
 use Rattle.steps.specs.Faults.{fault-of}
-use Rattle.steps.specs.declared.Action.{Action}
-use Rattle.steps.specs.declared.Action.the-variants.{Spill, Reload, Move, Change, Operation, Safepoint}
+use Rattle.loaded.specs.declared.Action.{Action}
+use Rattle.loaded.specs.declared.Action.the-variants.{Spill, Reload, Move, Change, Operation, Safepoint}
 use Rattle.steps.specs.declared.CheckerError.{CheckerError}
 use Rattle.steps.specs.declared.CheckerError.the-variants as error
 use Rattle.faults.specs.Errors.{ErrorWithin}

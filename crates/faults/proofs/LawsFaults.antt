@@ -12,8 +12,8 @@ use Rattle.paper.specs.Steps.{State, check, effect, effects}
 use Rattle.paper.specs.Refusals.{step-count}
 use Rattle.paper.specs.Report.{inst-of, line-of, faults-from}
 use Rattle.paper.specs.declared.Rule.{Rule}
-use Rattle.steps.specs.Same.{length-steps}
-use Rattle.sheet.specs.Loaded.{first-step, step-total, block-at, blocks-at}
+use Rattle.loaded.specs.Same.{length-steps}
+use Rattle.loaded.specs.Loaded.{first-step, step-total, block-at, blocks-at}
 
 -- a step more
 

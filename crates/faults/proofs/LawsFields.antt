@@ -11,7 +11,7 @@ use Rattle.paper.specs.Text.{Bytes, digits}
 use Rattle.paper.specs.Steps.{Fault, missing-allocation-for-reg}
 use Rattle.paper.specs.Report.{behind-tabs, letter-E, kind-of, fault-fields, reg-text, line-text}
 use Rattle.cells.specs.Packed.{name-of-word}
-use Rattle.steps.specs.Actions.{no-register, register-of}
+use Rattle.loaded.specs.Actions.{no-register, register-of}
 use Rattle.steps.specs.Faults.{fault-of}
 use Rattle.steps.specs.declared.CheckerError.the-variants as error
 use Rattle.report.specs.Lines.{field-text, field-texts, fields-line, PositionWithin}

@@ -9,10 +9,10 @@ use Rattle.paper.specs.Sheet.{Step, Sheet, steps-of}
 use Rattle.paper.specs.Report.{Line, inst-of, first-list, unallocated, missing-names, missing-from, missing-blocks, faults, names-lines}
 use Rattle.paper.specs.declared.Rule.{Rule}
 use Rattle.layout.specs.Layout.{defs-from}
-use Rattle.steps.specs.Actions.{operands, step-of, action-at, steps-at}
+use Rattle.loaded.specs.Actions.{operands, step-of, action-at, steps-at}
 use Rattle.steps.specs.Faults.{some-in}
-use Rattle.steps.specs.declared.Action.the-variants.{Operation}
-use Rattle.sheet.specs.Loaded.{sheet-of}
+use Rattle.loaded.specs.declared.Action.the-variants.{Operation}
+use Rattle.loaded.specs.Loaded.{sheet-of}
 use Rattle.report.specs.declared.Position.{Position}
 use Rattle.faults.specs.Errors.{names-at}
 use Rattle.faults.specs.Missing.{step-lines, missing-lines, is-found, MissingIs, MissingOf}

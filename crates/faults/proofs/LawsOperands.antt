@@ -12,7 +12,7 @@ use Rattle.lists.specs.Grown.{region-more}
 use Rattle.paper.specs.Sheet.{Operand}
 use Rattle.paper.specs.Report.{unallocated, lines-text, names-lines}
 use Rattle.cells.specs.Packed.{name-of-word}
-use Rattle.steps.specs.Actions.{no-register, register-of, operand-of, operands}
+use Rattle.loaded.specs.Actions.{no-register, register-of, operand-of, operands}
 use Rattle.report.specs.Lines.{fields-line}
 use Rattle.report.specs.declared.Position.{Position}
 use Rattle.faults.specs.Errors.{names-at}

@@ -8,9 +8,9 @@ use Rattle.paper.specs.Sheet.{Step}
 use Rattle.paper.specs.Limits.{max-steps}
 use Rattle.paper.specs.Report.{Line, inst-of, missing-names, names-lines, missing-allocations}
 use Rattle.layout.specs.Layout.{blocks-word, steps-word}
-use Rattle.steps.specs.Actions.{action-at, step-of}
+use Rattle.loaded.specs.Actions.{action-at, step-of}
 use Rattle.steps.specs.Faults.{some-in}
-use Rattle.sheet.specs.Loaded.{sheet-of}
+use Rattle.loaded.specs.Loaded.{sheet-of}
 use Rattle.faults.specs.declared.Missing.{Missing}
 use Rattle.faults.specs.declared.Missing.the-variants.{Nothing, Found}
 

@@ -12,7 +12,7 @@ use Rattle.paper.specs.declared.Rule.{Rule}
 use Rattle.paper.specs.declared.Answer.{Answer}
 use Rattle.layout.specs.Layout.{regs-word, slots-word, blocks-word, state-at}
 use Rattle.cells.specs.States.{stored-state}
-use Rattle.sheet.specs.Loaded.{sheet-of, Loaded, counts-in}
+use Rattle.loaded.specs.Loaded.{sheet-of, Loaded, counts-in}
 
 -- the words hold a sheet with every operand allocated, and each block's state behind the analysis
 pub record Checkable (rule : Rule) (words : List ℕ) : Type 0 where

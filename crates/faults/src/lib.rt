@@ -9,30 +9,26 @@ ghost use Rattle.paper.specs.Sheet.{steps-of};
 ghost use Rattle.paper.specs.Limits.{max-operands, max-steps, longest-fault-line, report-size};
 ghost use Rattle.paper.specs.Report.{block-faults, find-errors, unallocated, missing-from, faults, lines-text};
 ghost use Rattle.layout.specs.Layout.{blocks-word};
-ghost use Rattle.steps.specs.Actions.{operand-of, operands};
+ghost use Rattle.loaded.specs.Actions.{operand-of, operands};
 ghost use Rattle.steps.specs.Faults.{fault-of, some-in};
-ghost use Rattle.sheet.specs.Loaded.{step-total, sheet-of, Loaded};
+ghost use Rattle.loaded.specs.Loaded.{step-total, sheet-of, Loaded};
 ghost use Rattle.report.specs.Lines.{PositionWithin};
 ghost use Rattle.faults.specs.Errors.{FieldsOf, ErrorWithin, line-at, names-at};
 ghost use Rattle.faults.specs.Passes.{AfterPass};
 ghost use Rattle.faults.specs.Missing.{is-found, MissingIs, MissingOf};
 ghost use Rattle.faults.specs.Reported.{Checkable, Reported};
 ghost use Rattle.faults.specs.declared.Missing.the-variants.{Found};
-use layout::BLOCK_BASE;
-use layout::BLOCK_WORDS;
-use layout::BLOCKS_WORD;
 use layout::DEFS_FROM;
 use layout::STATE_BASE;
 use layout::STATE_WORDS;
-use layout::STEP_TOTAL_WORD;
+use loaded::Action;
+use loaded::NO_REGISTER;
 use paper::Answer;
 use paper::Rule;
 use report::FaultFields;
 use report::Field;
 use report::Position;
-use steps::Action;
 use steps::CheckerError;
-use steps::NO_REGISTER;
 
 // What a pass over the faults does with each: counts it, or writes its line.
 pub enum Pass {
@@ -209,7 +205,7 @@ pub fn write_missing(
         at,
         uses,
         defs,
-    } = steps::action_at(words, k)
+    } = loaded::action_at(words, k)
     else {
         return Answer::Accepted(0);
     };
@@ -225,13 +221,12 @@ fn find_in_block(words: &[u16], block: usize) -> Missing
     requires { ⌜ Loaded (now words) × (block < getD (now words) blocks-word 0) ⌝ }
     ensures { λ r. ⌜ MissingIs (now (words .entry)) (missing-from block 0 (steps-of (sheet-of (now (words .entry))) block)) r ⌝ }
 {
-    let base = BLOCK_BASE + block * BLOCK_WORDS;
-    let first = words[base] as usize;
-    let count = words[base + STEP_TOTAL_WORD] as usize;
+    let first = loaded::first_step(words, block);
+    let count = loaded::step_total(words, block);
     let mut place = 0;
     while place < count {
         let k = first + place;
-        let action = steps::action_at(words, k);
+        let action = loaded::action_at(words, k);
         if steps::missing(words, action) {
             return Missing::Found { block, place, k };
         }
@@ -255,7 +250,7 @@ pub fn find_missing(words: &[u16]) -> Missing
     requires { ⌜ Loaded (now words) ⌝ }
     ensures { λ r. ⌜ MissingOf (now (words .entry)) r ⌝ }
 {
-    let count = words[BLOCKS_WORD] as usize;
+    let count = loaded::blocks(words);
     let mut block = 0;
     while block < count {
         let found = find_in_block(words, block);
@@ -279,14 +274,13 @@ fn check_block(
     requires { ⌜ Checkable rule (now words) × (block < getD (now words) blocks-word 0) × (at + longest-fault-line * step-total (now words) block ≤ length (now report)) ⌝ }
     ensures { λ r. ⌜ AfterPass pass (block-faults rule (sheet-of (now (words .entry))) block) (now (report .entry)) at (now (report .exit)) r × (r ≤ at + longest-fault-line * step-total (now (words .entry)) block) ⌝ }
 {
-    let base = BLOCK_BASE + block * BLOCK_WORDS;
-    let first = words[base] as usize;
-    let count = words[base + STEP_TOTAL_WORD] as usize;
+    let first = loaded::first_step(words, block);
+    let count = loaded::step_total(words, block);
     let mut t = cells::load(words, STATE_BASE + block * STATE_WORDS);
     let mut next = at;
     let mut place = 0;
     while place < count {
-        let action = steps::action_at(words, first + place);
+        let action = loaded::action_at(words, first + place);
         let error = steps::check(words, t, action);
         let inst = steps::inst_of(action);
         let position = Position { block, place, inst };
@@ -302,7 +296,7 @@ fn find_errors(pass: Pass, rule: Rule, words: &[u16], report: &mut [u8], at: usi
     requires { ⌜ Checkable rule (now words) × (at + longest-fault-line * max-steps ≤ length (now report)) ⌝ }
     ensures { λ r. ⌜ AfterPass pass (find-errors rule (sheet-of (now (words .entry)))) (now (report .entry)) at (now (report .exit)) r × (r ≤ at + longest-fault-line * max-steps) ⌝ }
 {
-    let blocks = words[BLOCKS_WORD] as usize;
+    let blocks = loaded::blocks(words);
     let mut next = at;
     let mut block = 0;
     while block < blocks {

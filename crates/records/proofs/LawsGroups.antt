@@ -15,7 +15,7 @@ use Rattle.paper.specs.Text.{Name, real, virtual, name-same}
 use Rattle.paper.specs.Sheet.{Operand, operation, Sheet}
 use Rattle.paper.specs.Cells.{pick}
 use Rattle.paper.specs.Refusals.{step-record, any, repeats, names, allocated, elsewhere, name-beyond, reg-beyond, operand-beyond, step-beyond, step-out-of-order, beyond-limit, out-of-order, real-elsewhere, types-differ, so-far-of, first-holding}
-use Rattle.records.specs.declared.Counts.{Counts}
+use Rattle.loaded.specs.declared.Counts.{Counts}
 use Rattle.records.specs.declared.Place.{Place}
 use Rattle.records.specs.declared.Judged.{Judged}
 use Rattle.records.specs.declared.Judged.the-variants.{Passes, Breaks}

@@ -16,7 +16,7 @@ use Rattle.paper.specs.Refusals.{step-record, next, ended, change-of, operation
 use Rattle.fields.specs.Fields.{fields-behind}
 use Rattle.lists.specs.Bits.{set-bits}
 use Rattle.cells.specs.Packed.{name-of-word}
-use Rattle.records.specs.declared.Counts.{Counts}
+use Rattle.loaded.specs.declared.Counts.{Counts}
 use Rattle.records.specs.declared.Place.{Place}
 use Rattle.records.specs.declared.Operands.{Operands}
 use Rattle.records.specs.declared.Listed.{Listed}

@@ -15,12 +15,13 @@ use Rattle.paper.specs.Text.{Bytes}
 use Rattle.paper.specs.Sheet.{Step, Sheet}
 use Rattle.paper.specs.Refusals.{Record, function-record, typed-record, block-record, step-record, function-of, typed-of, block-of, two-numbers-of, out-of-place, beyond-limit, out-of-order, real-elsewhere, types-differ, step-too-many, any, so-far-of, Condition, first-holding, conditions}
 use Rattle.fields.specs.Fields.{fields-behind}
-use Rattle.records.specs.declared.Counts.{Counts}
+use Rattle.loaded.specs.declared.Counts.{Counts}
 use Rattle.records.specs.declared.Place.{Place}
 use Rattle.records.specs.declared.Breach.{Breach}
 use Rattle.records.specs.declared.Judged.{Judged}
 use Rattle.records.specs.declared.Judged.the-variants.{Passes, Breaks}
-use Rattle.records.specs.Records.{holding, judged-of, good, bad, told-by, told, Placed, Ends, Counted, Least, Paired, InPlace, FunctionWithin, BlockWithin, PairWithin}
+use Rattle.records.specs.Records.{holding, judged-of, good, bad, told-by, told, Placed, Ends, Counted, Least, Paired, InPlace, PairWithin}
+use Rattle.loaded.specs.Filling.{FunctionWithin, BlockWithin}
 use Rattle.records.specs.Parts.{NumbersRead, ExactlyRead}
 use Rattle.records.specs.declared.Form.the-variants.{Good, Bad}
 use Rattle.records.specs.declared.Numbers.{Numbers}

@@ -16,11 +16,12 @@ use Rattle.lists.specs.Split.{by-test, by-order, or-left, or-right}
 use Rattle.paper.specs.Text.{real}
 use Rattle.paper.specs.Sheet.{Operand, Sheet, reference-typed}
 use Rattle.paper.specs.Refusals.{any, name-beyond, reg-beyond, operand-beyond}
-use Rattle.records.specs.declared.Counts.{Counts}
+use Rattle.loaded.specs.declared.Counts.{Counts}
 use Rattle.records.specs.declared.Operands.{Operands}
 use Rattle.cells.specs.Packed.{name-of-word, marked}
-use Rattle.steps.specs.Actions.{no-register, register-of, operand-of, operands}
-use Rattle.records.specs.Records.{CountsWithin, TypedBy, name-of-code, register-of-code, GroupWithin}
+use Rattle.loaded.specs.Actions.{no-register, register-of, operand-of, operands}
+use Rattle.records.specs.Records.{CountsWithin, TypedBy, name-of-code, register-of-code}
+use Rattle.loaded.specs.Filling.{GroupWithin}
 use Rattle.records.specs.Parts.{counted, operand-of-codes, operands-of-codes, held, Roomy, name-word, register-word, mark-word, refers, word, Small}
 use Rattle.records.proofs.LawsOperands.{codes-length, codes-at}
 use Rattle.records.proofs.LawsSearch.{any-each}

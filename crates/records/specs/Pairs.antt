@@ -2,7 +2,7 @@
 use mathlib.Core.Path.{refl}
 use Rattle.paper.specs.Sheet.{Sheet, spill, reload, move}
 use Rattle.paper.specs.Refusals.{real-elsewhere, types-differ, step-beyond, step-out-of-order}
-use Rattle.records.specs.declared.Counts.{Counts}
+use Rattle.loaded.specs.declared.Counts.{Counts}
 use Rattle.records.specs.Records.{Counted, Paired}
 
 module _ {S : Sheet} {counts : Counts} (h : Counted S counts) where

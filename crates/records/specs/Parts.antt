@@ -13,7 +13,7 @@ use Rattle.paper.specs.Limits.{max-succs, max-operands, max-inst}
 use Rattle.paper.specs.Refusals.{step-record, Read, _>>=_, next, ended, numbers-of, operands-of, counted-operands-of, change-of, any, ascending, operand-beyond}
 use Rattle.fields.specs.Fields.{line-end, fields-behind}
 use Rattle.lists.specs.Bits.{set-bits}
-use Rattle.records.specs.declared.Counts.{Counts}
+use Rattle.loaded.specs.declared.Counts.{Counts}
 use Rattle.records.specs.declared.Place.{Place}
 use Rattle.records.specs.declared.Judged.{Judged}
 use Rattle.records.specs.declared.Judged.the-variants as judged

@@ -2,24 +2,24 @@
 -- ends, and the fields that are left of the line stand behind it.
 use mathlib.Core.Path.{_≡_}
 use mathlib.Core.Bool.{Bool, true, false, cond, not, _||_}
-use mathlib.Core.Logic.{_⊎_}
 use mathlib.Core.List.{List, [], _∷_, _++_}
 use mathlib.Core.Option.{Option, none, some}
-use Prim.Native.Nat.{ℕ, _+_, _-_, _/_, _^_, _≤_, _<_}
+use Prim.Native.Nat.{ℕ, _+_, _-_, _^_, _≤_, _<_}
 use lib.Dec.{eqb, leb, ltb}
 use lib.ListN.{length, getD, take}
 use Rattle.paper.specs.Text.{Bytes, line-feed, number-of, Name, real, virtual, name-of}
-use Rattle.paper.specs.Sheet.{Step, change, operation, safepoint, Sheet, listed, reference-typed}
-use Rattle.paper.specs.Limits.{max-regs, max-slots, max-vregs, max-blocks, max-inst, max-sheet, max-succs, max-operands}
+use Rattle.paper.specs.Sheet.{Step, change, operation, safepoint, Sheet, listed}
+use Rattle.paper.specs.Limits.{max-regs, max-slots, max-vregs, max-blocks, max-inst, max-sheet}
 use Rattle.paper.specs.Refusals.{Record, function-record, typed-record, block-record, step-record, next, allocation-of, out-of-place, real-elsewhere, types-differ, step-beyond, step-out-of-order, step-too-many, ascending, so-far-of, Condition, first-holding, conditions}
 use Rattle.layout.specs.Layout.{defs-from}
 use Rattle.fields.specs.Fields.{ends-field, field-end, line-end, fields-behind}
 use Rattle.fields.specs.declared.Number as Number
 use Rattle.fields.specs.declared.Number.the-variants as number
 use Rattle.lists.specs.Bits.{set-bits}
-use Rattle.cells.specs.Packed.{name-of-word, marked}
-use Rattle.steps.specs.Actions.{no-register, operands}
-use Rattle.records.specs.declared.Counts.{Counts}
+use Rattle.cells.specs.Packed.{name-of-word}
+use Rattle.loaded.specs.Actions.{operands}
+use Rattle.loaded.specs.Filling.{FunctionWithin, BlockWithin, GroupWithin}
+use Rattle.loaded.specs.declared.Counts.{Counts}
 use Rattle.records.specs.declared.Place.{Place}
 use Rattle.records.specs.declared.Breach.{Breach}
 use Rattle.records.specs.declared.Judged.{Judged}
@@ -196,20 +196,9 @@ pub record InPlace (s : Bytes) (place : Place) (next : ℕ) : Type 0 where
   pub placed : place .misplaced ≡ false
   pub room : place .surplus ≡ false
 
-pub record FunctionWithin (regs slots vregs blocks entry : ℕ) : Type 0 where
-  pub regs-most : regs ≤ max-regs
-  pub slots-most : slots ≤ max-slots
-  pub vregs-most : vregs ≤ max-vregs
-  pub blocks-most : blocks ≤ max-blocks
-  pub entry-below : entry < blocks
-
 pub record TypedWithin (vregs least n : ℕ) : Type 0 where
   pub name-below : n < vregs
   pub name-ascends : least ≤ n
-
-pub record BlockWithin (blocks count : ℕ) (succs : List ℕ) : Type 0 where
-  pub few : count ≤ max-succs
-  pub below : (k : ℕ) → k < count → getD succs k 0 < blocks
 
 pub record PairWithin (first second a b : ℕ) : Type 0 where
   pub first-below : a < first
@@ -224,12 +213,6 @@ pub record ChangeWithin (slots inst slot from to : ℕ) : Type 0 where
 pub record SafepointWithin (slots inst mask : ℕ) : Type 0 where
   pub inst-most : inst ≤ max-inst
   pub mask-below : mask < 2 ^ slots
-
--- the words of a group stand from `from` on: each register is below `regs` or none, each mark is that of its own name
-pub record GroupWithin (S : Sheet) (regs from count : ℕ) (words : List ℕ) : Type 0 where
-  pub few : count ≤ max-operands
-  pub registers : (k : ℕ) → k < count → (getD words (from + k) 0 / 1024 < regs) ⊎ (getD words (from + k) 0 / 1024 ≡ no-register)
-  pub marks : (k : ℕ) → k < count → reference-typed S (name-of-word (getD words (from + k) 0)) ≡ marked (getD words (from + k) 0)
 
 abbrev pub FunctionClear : Bytes → Place → FunctionLine → Type 0
 FunctionClear s place (function.Good regs slots vregs blocks entry next) = InPlace s place next × FunctionWithin regs slots vregs blocks entry

@@ -22,6 +22,7 @@ use layout::DEFS_FROM;
 use layout::MAX_OPERANDS;
 use layout::MAX_SUCCS;
 use layout::OPERAND_WORDS;
+use loaded::Counts;
 use paper::BEYOND_LIMIT;
 use paper::ILL_FORMED;
 use paper::OUT_OF_ORDER;
@@ -47,14 +48,6 @@ const MAX_VREGS: u32 = layout::MAX_VREGS as u32;
 const MAX_BLOCKS: u32 = layout::MAX_BLOCKS as u32;
 
 const MAX_INST: u32 = layout::MAX_INST as u32;
-
-// `F`'s counts, which the lines behind it are held against.
-pub struct Counts {
-    pub regs: u32,
-    pub slots: u32,
-    pub vregs: u32,
-    pub blocks: u32,
-}
 
 // What is known of a line by the lines before it: is it out of place, and is it a step too many?
 pub struct Place {

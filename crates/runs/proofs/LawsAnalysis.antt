@@ -17,11 +17,11 @@ use Rattle.layout.specs.Layout.{blocks-word}
 use Rattle.walks.specs.Running.{run-suc}
 use Rattle.walks.specs.Passing.{PassedOn}
 use Rattle.walks.specs.Loop.{Standing, standing-room, standing-step, standing-begin, stopped-early}
-use Rattle.sheet.specs.Loaded.{sheet-of, Loaded}
-use Rattle.runs.specs.Held.{RunKept, held-state}
+use Rattle.loaded.specs.Loaded.{sheet-of, Loaded}
+use Rattle.tables.specs.Held.{RunKept, held-state}
 use Rattle.runs.specs.Queue.{held, held-from}
-use Rattle.runs.specs.Table.{mark-of, Tabled}
-use Rattle.runs.specs.Allowed.{loaded-closed}
+use Rattle.tables.specs.Table.{mark-of, Tabled}
+use Rattle.tables.specs.Allowed.{loaded-closed}
 use Rattle.runs.specs.Stands.{Begins, Running, Continues, Analysed}
 use Rattle.runs.specs.Settled.{Settled, Visited}
 use Rattle.runs.specs.declared.Ring.{Ring}

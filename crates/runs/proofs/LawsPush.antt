@@ -1,6 +1,6 @@
 -- A push: the run that stands in words and queue once a state has come to a block.
 use mathlib.Core.Path.{_≡_, refl, ap, _∙_}
-use mathlib.Core.Bool.{true, false, cond}
+use mathlib.Core.Bool.{Bool, true, false, cond}
 use mathlib.Core.List.{List, [], _∷_, _++_}
 use mathlib.Core.Option.{Option, none, some}
 use Prim.Native.Nat.{ℕ}
@@ -10,8 +10,8 @@ use Rattle.paper.specs.Steps.{State, counts-of}
 use Rattle.paper.specs.Runs.{Run, store, push-at, push, meet-states, state-same, flow}
 use Rattle.paper.specs.declared.Rule.{Rule}
 use Rattle.cells.specs.States.{state-of}
-use Rattle.runs.specs.Queue.{Appended}
-use Rattle.runs.specs.Table.{joined, arrives, Came}
+use Rattle.runs.specs.Queue.{Appended, Waits}
+use Rattle.tables.specs.Table.{joined, arrives, Came}
 use Rattle.runs.specs.Stands.{Moved}
 use Rattle.runs.specs.declared.Ring.{Ring}
 
@@ -31,7 +31,7 @@ push-is rule S b x r = at (r .table b)
 
 module _ {rule : Rule} {b : ℕ} {s : List (List ℕ)} {words words′ queue : List ℕ} {ring : Ring} where
   -- the state is new, and the block waits
-  pub moved-new : {queue′ : List ℕ} {ring′ : Ring} → Came rule b s words words′ true → Appended queue ring b queue′ ring′
+  moved-new : {queue′ : List ℕ} {ring′ : Ring} → Came rule b s words words′ true → Appended queue ring b queue′ ring′
       → Moved rule words queue ring words′ queue′ ring′ (λ S. push (flow rule S) b (state-of (counts-of S) s))
   unfolding store
   moved-new came app = record {
@@ -45,7 +45,7 @@ module _ {rule : Rule} {b : ℕ} {s : List (List ℕ)} {words words′ queue : L
   }
 
   -- the state is not
-  pub moved-known : Came rule b s words words′ false → Moved rule words queue ring words′ queue ring (λ S. push (flow rule S) b (state-of (counts-of S) s))
+  moved-known : Came rule b s words words′ false → Moved rule words queue ring words′ queue ring (λ S. push (flow rule S) b (state-of (counts-of S) s))
   moved-known came = record {
     kept = came .kept;
     same-length = refl;
@@ -55,3 +55,9 @@ module _ {rule : Rule} {b : ℕ} {s : List (List ℕ)} {words words′ queue : L
       waiting = h .waiting;
     });
   }
+
+  -- a state came, and its block waits where it is new
+  pub pushed : {queue′ : List ℕ} {ring′ : Ring} (new : Bool) → Came rule b s words words′ new → Waits new b queue ring queue′ ring′
+      → Moved rule words queue ring words′ queue′ ring′ (λ S. push (flow rule S) b (state-of (counts-of S) s))
+  pushed true came app = moved-new came app
+  pushed false came same = rw (same .0, same .1) (moved-known came)

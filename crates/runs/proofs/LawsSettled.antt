@@ -17,7 +17,7 @@ use Rattle.paper.specs.declared.Rule.{Rule}
 use Rattle.walks.specs.Choices.{some-inj, some-not-none}
 use Rattle.walks.specs.Passing.{PassedOn, Passing, below-left, below-right, store-passing, skip-passing, visit-passing}
 use Rattle.walks.specs.Effects.{states-idem, meet-laws}
-use Rattle.runs.specs.Table.{arrives, Came}
+use Rattle.tables.specs.Table.{arrives, Came}
 use Rattle.runs.specs.Settled.{Settled, unsettled, Unsettled}
 use Rattle.runs.specs.declared.Ring.{Ring}
 
@@ -77,6 +77,6 @@ module _ (rule : Rule) (S : Sheet) where
   passing-first b a settled table e g = visit-passing F table b a e (F .succs b) (λ s i. i) (λ c n q. still-settled settled b 1 c n q) g
 
 -- a state that came unsettles its block where it is new
-pub unsettled-came : {rule : Rule} {b : ℕ} {s : List (List ℕ)} {words words′ queue settled : List ℕ} {ring : Ring} (new : Bool) → Came rule b s words words′ new
-    → Unsettled rule words queue ring b s settled (unsettled new b settled)
-unsettled-came {b = b} {settled = settled} new came = record { is = λ S r h. ap (λ (x : Bool). unsettled x b settled) (came .is-new S (r .table) (h .tables)) }
+pub unsettled-came : {rule : Rule} {b : ℕ} {s : List (List ℕ)} {words words′ queue settled settled′ : List ℕ} {ring : Ring} {new : Bool} → Came rule b s words words′ new
+    → settled′ ≡ unsettled new b settled → Unsettled rule words queue ring b s settled settled′
+unsettled-came {b = b} {settled = settled} came e = record { is = λ S r h. e ∙ ap (λ (x : Bool). unsettled x b settled) (came .is-new S (r .table) (h .tables)) }

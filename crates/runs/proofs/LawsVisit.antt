@@ -24,17 +24,17 @@ use Rattle.walks.specs.Passing.{PassedOn, Passing, passing-done, spread-covered
 use Rattle.walks.specs.Running.{step-visit, spread-last}
 use Rattle.walks.specs.Loop.{standing-room, standing-below, standing-visited, standing-inside}
 use Rattle.cells.specs.States.{state-of, Narrow}
-use Rattle.sheet.specs.Loaded.{succ-total, sheet-of, BlockBounds}
-use Rattle.sheet.specs.Blocks.{succs-in-words}
-use Rattle.runs.specs.Held.{held-state}
+use Rattle.loaded.specs.Loaded.{succ-total, sheet-of, BlockBounds}
+use Rattle.loaded.specs.Blocks.{succs-in-words}
+use Rattle.tables.specs.Held.{held-state}
 use Rattle.runs.specs.Queue.{held, Sound, Taken}
-use Rattle.runs.specs.Table.{Ready, Holds, mark-of, arrives, Through}
+use Rattle.tables.specs.Table.{Ready, Holds, mark-of, arrives, Through}
 use Rattle.runs.specs.Stands.{Stands, Continues, Moved}
 use Rattle.runs.specs.declared.Ring.{Ring}
 use Rattle.runs.specs.Settled.{Settled, unsettled, Unsettled, Visited}
 use Rattle.runs.proofs.LawsQueue.{length-held}
 use Rattle.runs.proofs.LawsSettled.{push-passing, passing-first}
-use Rattle.runs.proofs.LawsTable.{marked, blocks-are, few-blocks, rows-fit, ready-stays}
+use Rattle.tables.specs.Laws.{marked, blocks-are, few-blocks, rows-fit, ready-stays}
 
 -- inside a visit, whose block has its successors from `from` on: the first i have been served
 pub record Serving (rule : Rule) (words₀ queue₀ : List ℕ) (ring₀ : Ring) (s : List (List ℕ)) (from total : ℕ) (words queue : List ℕ) (ring : Ring) (i : ℕ) : Type 0 where
@@ -45,17 +45,18 @@ pub serving-none : {rule : Rule} {words queue : List ℕ} {ring : Ring} {s : Lis
 unfolding spread region
 serving-none = record { past = omega arith; moved = record { kept = kept-same _ _ _; same-length = refl; stands = λ S r h. h } }
 
-pub serving-more : {rule : Rule} {words₀ queue₀ : List ℕ} {ring₀ : Ring} {s : List (List ℕ)} {from total : ℕ} {words queue : List ℕ} {ring : Ring} {i : ℕ} {words′ queue′ : List ℕ} {ring′ : Ring}
+pub serving-more : {rule : Rule} {words₀ queue₀ : List ℕ} {ring₀ : Ring} {s : List (List ℕ)} {from total : ℕ} {words queue : List ℕ} {ring : Ring} {i next : ℕ} {words′ queue′ : List ℕ} {ring′ : Ring}
     → Serving rule words₀ queue₀ ring₀ s from total words queue ring i → i < total → from + total ≤ state-base → from + total ≤ length words₀
-    → Moved rule words queue ring words′ queue′ ring′ (λ S. push (flow rule S) (getD words (from + i) 0) (state-of (counts-of S) s))
+    → next ≡ getD words (from + i) 0
+    → Moved rule words queue ring words′ queue′ ring′ (λ S. push (flow rule S) next (state-of (counts-of S) s))
     → Serving rule words₀ queue₀ ring₀ s from total words′ queue′ ring′ (i + 1)
-serving-more {rule} {words₀} {s = s} {from = from} {i = i} g l low fits m = record {
+serving-more {rule} {words₀} {s = s} {from = from} {i = i} g l low fits e m = record {
   past = omega arith;
   moved = record {
     kept = kept-then _ _ (g .moved .kept) (m .kept) (omega arith) (omega arith) (omega arith) (omega arith);
     same-length = m .same-length ∙ g .moved .same-length;
     stands = λ S r h.
-        rw (region-more from i words₀ (omega arith), spread-last (flow rule S) (region from i words₀) (getD words₀ (from + i) 0) (state-of (counts-of S) s) r, ← g .moved .kept .below (from + i) (omega arith))
+        rw (region-more from i words₀ (omega arith), spread-last (flow rule S) (region from i words₀) (getD words₀ (from + i) 0) (state-of (counts-of S) s) r, ← g .moved .kept .below (from + i) (omega arith), ← e)
         (m .stands S _ (g .moved .stands S r h));
   };
 }
@@ -76,20 +77,20 @@ settling-none {from = from} {total = total} = record {
       rw (a, b) p;
 }
 
-pub settling-more : {rule : Rule} {words₀ queue₀ : List ℕ} {ring₀ : Ring} {s : List (List ℕ)} {from total : ℕ} {settled₀ settled : List ℕ} {words queue : List ℕ} {ring : Ring} {i : ℕ} {settled′ : List ℕ}
+pub settling-more : {rule : Rule} {words₀ queue₀ : List ℕ} {ring₀ : Ring} {s : List (List ℕ)} {from total : ℕ} {settled₀ settled : List ℕ} {words queue : List ℕ} {ring : Ring} {i next : ℕ} {settled′ : List ℕ}
     → Serving rule words₀ queue₀ ring₀ s from total words queue ring i → Settling rule words₀ queue₀ ring₀ s from total settled₀ settled i → i < total → from + total ≤ state-base → from + total ≤ length words₀
-    → Unsettled rule words queue ring (getD words (from + i) 0) s settled settled′
+    → next ≡ getD words (from + i) 0 → Unsettled rule words queue ring next s settled settled′
     → Settling rule words₀ queue₀ ring₀ s from total settled₀ settled′ (i + 1)
-settling-more {rule} {words₀} {s = s} {from = from} {total = total} {settled = settled} {i = i} {settled′ = settled′} g m l low fits u = record {
+settling-more {rule} {words₀} {s = s} {from = from} {total = total} {settled = settled} {i = i} {settled′ = settled′} g m l low fits e u = record {
   passing = λ S r h p.
       let x = state-of (counts-of S) s in
       let b : ℕ = getD words₀ (from + i) 0 in
       let at : Run State = spread (flow rule S) (region from i words₀) x r in
       let cut : region (from + i) (total - i) words₀ ≡ b ∷ region (from + i + 1) (total - i - 1) words₀ = region-cons (from + i) (total - i) words₀ (omega arith) (omega arith) in
-      let next : from + i + 1 ≡ from + (i + 1) = omega arith in
+      let after : from + i + 1 ≡ from + (i + 1) = omega arith in
       let fewer : total - i - 1 ≡ total - (i + 1) = omega arith in
-      let q : Passing (flow rule S) (Settled settled) x (b ∷ region (from + (i + 1)) (total - (i + 1)) words₀) (at .table) = rw (cut, next, fewer) at (m .passing S r h p) in
-      let bytes : settled′ ≡ unsettled (arrives rule (at .table b) x) b settled = rw (g .moved .kept .below (from + i) (omega arith)) at (u .is S at (g .moved .stands S r h)) in
+      let q : Passing (flow rule S) (Settled settled) x (b ∷ region (from + (i + 1)) (total - (i + 1)) words₀) (at .table) = rw (cut, after, fewer) at (m .passing S r h p) in
+      let bytes : settled′ ≡ unsettled (arrives rule (at .table b) x) b settled = rw (e, g .moved .kept .below (from + i) (omega arith)) at (u .is S at (g .moved .stands S r h)) in
       rw (region-more from i words₀ (omega arith), spread-last (flow rule S) (region from i words₀) b x r, bytes) (push-passing rule S b x _ settled at q);
 }
 

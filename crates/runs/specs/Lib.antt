@@ -1,7 +1,3 @@
-pub mod Held
 pub mod Queue
-pub mod Table
-pub mod Sheets
-pub mod Allowed
 pub mod Stands
 pub mod Settled

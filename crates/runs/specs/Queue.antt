@@ -1,6 +1,6 @@
 -- The blocks that wait, in a ring: `count` bytes from `head` on, round the end of the queue's first `queue-size` bytes.
 use mathlib.Core.Path.{_≡_}
-use mathlib.Core.Bool.{cond}
+use mathlib.Core.Bool.{Bool, true, false, cond}
 use mathlib.Core.List.{List, [], _∷_, _++_}
 use Prim.Native.Nat.{ℕ, zero, suc, _+_, _-_, _≤_, _<_}
 use lib.Dec.{ltb}
@@ -29,6 +29,11 @@ pub record Appended (queue : List ℕ) (ring : Ring) (b : ℕ) (queue′ : List 
   pub sound : Sound queue′ ring′
   pub same-length : length queue′ ≡ length queue
   pub holds : held queue′ ring′ ≡ held queue ring ++ (b ∷ [])
+
+-- one more at the end, where it is new
+abbrev pub Waits : Bool → ℕ → List ℕ → Ring → List ℕ → Ring → Type 0
+Waits true b queue ring queue′ ring′ = Appended queue ring b queue′ ring′
+Waits false b queue ring queue′ ring′ = (queue′ ≡ queue) × (ring′ ≡ ring)
 
 -- the one that waits longest is gone
 pub record Taken (queue : List ℕ) (ring : Ring) (ring′ : Ring) : Type 0 where

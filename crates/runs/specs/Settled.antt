@@ -11,8 +11,8 @@ use Rattle.paper.specs.Runs.{Run, step, flow}
 use Rattle.paper.specs.declared.Rule.{Rule}
 use Rattle.walks.specs.Passing.{PassedOn}
 use Rattle.cells.specs.States.{state-of}
-use Rattle.runs.specs.Held.{RunKept}
-use Rattle.runs.specs.Table.{arrives}
+use Rattle.tables.specs.Held.{RunKept}
+use Rattle.tables.specs.Table.{arrives}
 use Rattle.runs.specs.Stands.{Stands}
 use Rattle.runs.specs.declared.Ring.{Ring}
 

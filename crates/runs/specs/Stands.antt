@@ -14,11 +14,11 @@ use Rattle.layout.specs.Layout.{regs-word, slots-word, blocks-word, state-at, m
 use Rattle.walks.specs.Bounds.{Closed}
 use Rattle.walks.specs.Loop.{Standing}
 use Rattle.cells.specs.States.{stored-state}
-use Rattle.sheet.specs.Loaded.{sheet-of, Loaded, counts-in}
-use Rattle.runs.specs.Held.{RunKept, held-state}
+use Rattle.loaded.specs.Loaded.{sheet-of, Loaded, counts-in}
+use Rattle.tables.specs.Held.{RunKept, held-state}
 use Rattle.runs.specs.Queue.{held, Sound}
-use Rattle.runs.specs.Table.{mark-of, Tables}
-use Rattle.runs.specs.Sheets.{sheet-stays, loaded-stays}
+use Rattle.tables.specs.Table.{mark-of, Tables}
+use Rattle.loaded.specs.Sheets.{sheet-stays, loaded-stays}
 use Rattle.runs.specs.declared.Ring.{Ring}
 
 -- the sheet S and the run r stand in words and queue

@@ -1,36 +1,20 @@
-// The analysis under either rule: the blocks' states in the lent words, the blocks that wait in the lent queue.
+// The analysis under either rule: the blocks that wait, in the lent queue, and the visits over the table of states.
 ghost use mathlib.Core.Path.{_≡_};
 ghost use mathlib.Core.List.{List, []};
 ghost use Prim.Native.Nat.{ℕ, _≤_, _<_};
-ghost use lib.ListN.{length, getD};
-ghost use Rattle.paper.specs.Sheet.{Sheet};
+ghost use lib.ListN.{length};
 ghost use Rattle.paper.specs.Report.{missing-allocations};
-ghost use Rattle.paper.specs.Limits.{queue-size};
+ghost use Rattle.paper.specs.Limits.{max-blocks, queue-size};
 ghost use Rattle.paper.specs.Runs as paper-runs;
-ghost use Rattle.layout.specs.Layout.{blocks-word, run-words};
+ghost use Rattle.layout.specs.Layout.{run-words};
 ghost use Rattle.cells.specs.Meeting.{meet-table};
-ghost use Rattle.cells.specs.States.{state-of};
-ghost use Rattle.sheet.specs.Loaded.{sheet-of, Loaded};
-ghost use Rattle.paper.specs.Steps.{counts-of};
-ghost use Rattle.runs.specs.Held.{RunKept};
-ghost use Rattle.runs.specs.Queue.{place, Sound, Appended, Taken};
-ghost use Rattle.runs.specs.Table.{Ready, mark-of, Tables, Came, Entered, Through};
-ghost use Rattle.runs.specs.Stands.{Begins, Continues, Moved, Analysed};
-ghost use Rattle.runs.specs.Settled.{Unsettled, Visited};
-use cells::State;
-use layout::BLOCK_BASE;
-use layout::BLOCK_WORDS;
-use layout::BLOCKS_WORD;
-use layout::ENTRY_WORD;
-use layout::MARK_BASE;
+ghost use Rattle.loaded.specs.Loaded.{sheet-of, Loaded};
+ghost use Rattle.runs.specs.Queue.{place, Sound, Appended, Waits, Taken};
+ghost use Rattle.tables.specs.Table.{Ready};
+ghost use Rattle.runs.specs.Stands.{Begins, Continues, Analysed};
+ghost use Rattle.runs.specs.Settled.{unsettled, Visited};
 use layout::MAX_BLOCKS;
 use layout::QUEUE_SIZE;
-use layout::REGS_WORD;
-use layout::STATE_BASE;
-use layout::STATE_WORDS;
-use layout::STEP_TOTAL_WORD;
-use layout::SUCC_TOTAL_WORD;
-use layout::SUCCS_FROM;
 use paper::Rule;
 
 // The blocks that wait: `count` bytes of the queue from `head` on, round its end.
@@ -80,99 +64,29 @@ fn take(ring: Ring) -> Ring
     }
 }
 
-// The mark that a block begins with: under the old rule every block has a state.
-fn first_mark(rule: Rule) -> u16
-    ensures { λ r. ⌜ ((S : Sheet) (b : ℕ) → r ≡ mark-of (paper-runs.before rule S b)) ⌝ }
-{
-    match rule {
-        Rule::Old => 1,
-        Rule::House => 0,
-    }
-}
-
-// Block b gets a state, and is visited.
-fn enter(words: &mut [u16], b: usize, s: State)
-    requires { ⌜ Ready (now words) × (b < getD (now words) blocks-word 0) ⌝ }
-    ensures { λ r. ⌜ Entered b s (now (words .entry)) (now (words .exit)) ⌝ }
-{
-    let counts = sheet::row_counts(words);
-    cells::store(words, STATE_BASE + b * STATE_WORDS, s, counts);
-    words[MARK_BASE + b] = 1;
-}
-
-// Every block as it begins.
-fn begin_blocks(rule: Rule, words: &mut [u16])
-    requires { ⌜ Ready (now words) ⌝ }
-    ensures { λ r. ⌜ RunKept (now (words .entry)) (now (words .exit)) × Tables rule (sheet-of (now (words .entry))) (now (words .exit)) (paper-runs.before rule (sheet-of (now (words .entry)))) ⌝ }
-{
-    let counts = sheet::row_counts(words);
-    let blocks = words[BLOCKS_WORD] as usize;
-    let s = cells::unreached_state(rule);
-    let mut b = 0;
-    while b < blocks {
-        cells::store(words, STATE_BASE + b * STATE_WORDS, s, counts);
-        words[MARK_BASE + b] = first_mark(rule);
-        b += 1;
-    }
-}
-
 // The run as it begins: the entry has its state and waits.
 fn begin(rule: Rule, words: &mut [u16], queue: &mut [u8]) -> Ring
     requires { ⌜ Ready (now words) × (queue-size ≤ length (now queue)) ⌝ }
     ensures { λ r. ⌜ Begins rule (now (words .entry)) (now (queue .entry)) (now (words .exit)) (now (queue .exit)) r ⌝ }
 {
-    let regs = words[REGS_WORD] as usize;
-    let entry = words[ENTRY_WORD];
-    begin_blocks(rule, words);
-    enter(words, entry as usize, cells::entry_state(rule, regs));
+    let counts = loaded::row_counts(words);
+    let entry = loaded::entry(words);
+    tables::begin_blocks(rule, words);
+    tables::enter(words, entry, cells::entry_state(rule, counts.regs));
     append(queue, Ring { head: 0, count: 0 }, entry as u8)
 }
 
-// A state comes to block b: whether that changes a cell or marks the block.
-fn join(table: &[[[u8; 4]; 4]; 2], rule: Rule, words: &mut [u16], b: usize, s: State) -> bool
-    requires { ⌜ (now table ≡ meet-table) × Ready (now words) × (b < getD (now words) blocks-word 0) ⌝ }
-    ensures { λ r. ⌜ Came rule b s (now (words .entry)) (now (words .exit)) r ⌝ }
+// Where what came to block b is new, the block waits, and is settled no more.
+fn wait(new: bool, queue: &mut [u8], settled: &mut [u8; MAX_BLOCKS], ring: Ring, b: usize) -> Ring
+    requires { ⌜ Sound (now queue) ring × (ring .count < queue-size) × (b < max-blocks) ⌝ }
+    ensures { λ r. ⌜ Waits new b (now (queue .entry)) ring (now (queue .exit)) r × (now (settled .exit) ≡ unsettled new b (now (settled .entry))) ⌝ }
 {
-    if words[MARK_BASE + b] == 0 {
-        enter(words, b, s);
-        return true;
-    }
-    let counts = sheet::row_counts(words);
-    cells::meet_with(table, rule, words, STATE_BASE + b * STATE_WORDS, s, counts)
-}
-
-// A state comes to block b, which waits and is settled no more where that is new.
-fn push(
-    table: &[[[u8; 4]; 4]; 2],
-    rule: Rule,
-    words: &mut [u16],
-    queue: &mut [u8],
-    settled: &mut [u8; MAX_BLOCKS],
-    ring: Ring,
-    b: usize,
-    s: State,
-) -> Ring
-    requires { ⌜ (now table ≡ meet-table) × Ready (now words) × (b < getD (now words) blocks-word 0) × Sound (now queue) ring × (ring .count < queue-size) ⌝ }
-    ensures { λ r. ⌜ Moved rule (now (words .entry)) (now (queue .entry)) ring (now (words .exit)) (now (queue .exit)) r (λ S. paper-runs.push (paper-runs.flow rule S) b (state-of (counts-of S) s)) × Unsettled rule (now (words .entry)) (now (queue .entry)) ring b s (now (settled .entry)) (now (settled .exit)) ⌝ }
-{
-    if join(table, rule, words, b, s) {
+    if new {
         settled[b] = 0;
         append(queue, ring, b as u8)
     } else {
         ring
     }
-}
-
-// What block b makes of the state that it holds.
-fn through(rule: Rule, words: &[u16], b: usize) -> State
-    requires { ⌜ Ready (now words) × (missing-allocations (sheet-of (now words)) ≡ []) × (b < getD (now words) blocks-word 0) ⌝ }
-    ensures { λ r. ⌜ Through rule b (now (words .entry)) r ⌝ }
-{
-    let s = cells::load(words, STATE_BASE + b * STATE_WORDS);
-    let at = BLOCK_BASE + b * BLOCK_WORDS;
-    let first = words[at] as usize;
-    let count = words[at + STEP_TOTAL_WORD] as usize;
-    steps::effects(words, rule, s, first, count)
 }
 
 // One visit: the block at the head is taken, its steps are run, and each successor in listed order gets the result. A settled block
@@ -195,13 +109,13 @@ fn visit(
         return waiting;
     }
     settled[b] = 1;
-    let result = through(rule, words, b);
-    let at = BLOCK_BASE + b * BLOCK_WORDS;
-    let total = words[at + SUCC_TOTAL_WORD] as usize;
+    let result = tables::through(rule, words, b);
+    let total = loaded::succ_total(words, b);
     let mut i = 0;
     while i < total {
-        let s = words[at + SUCCS_FROM + i] as usize;
-        let next = push(table, rule, words, queue, settled, waiting, s, result);
+        let s = loaded::successor(words, b, i);
+        let new = tables::join(table, rule, words, s, result);
+        let next = wait(new, queue, settled, waiting, s);
         waiting = next;
         i += 1;
     }

@@ -1,6 +1,6 @@
 -- A line, from what `records` tells of it beside the sheet so far: it is refused as the paper's reader refuses it, or what it says
 -- is stored.
-use mathlib.Core.Path.{_≡_, refl, sym, ap, _∙_, subst}
+use mathlib.Core.Path.{_≡_, sym, ap, _∙_, subst}
 use mathlib.Core.List.{List}
 use mathlib.Core.Option.{Option, none, some}
 use Prim.Native.Nat.{ℕ, _+_, _<_}
@@ -11,9 +11,10 @@ use Rattle.paper.specs.Sheet.{Sheet}
 use Rattle.paper.specs.Refusals.{Record, so-far-of, first-holding, conditions, add-record, judged, read-record}
 use Rattle.paper.specs.Refusals as paper
 use Rattle.fields.specs.Fields.{line-end}
-use Rattle.records.specs.Records.{Line, good, bad, told-by, told, InPlace, FunctionWithin, TypedWithin, BlockWithin, PairWithin, ChangeWithin, GroupsWithin, SafepointWithin, FunctionClear, TypedClear, BlockClear, PairClear, ChangeClear, OperationClear, SafepointClear}
+use Rattle.records.specs.Records.{Line, good, bad, told-by, told, InPlace, TypedWithin, PairWithin, ChangeWithin, GroupsWithin, SafepointWithin, FunctionClear, TypedClear, BlockClear, PairClear, ChangeClear, OperationClear, SafepointClear}
+use Rattle.loaded.specs.Filling.{FunctionWithin, BlockWithin, Stored}
 use Rattle.records.specs.declared.Breach.{Breach}
-use Rattle.records.specs.declared.Counts.{Counts}
+use Rattle.loaded.specs.declared.Counts.{Counts}
 use Rattle.records.specs.declared.Place.{Place}
 use Rattle.records.specs.declared.FunctionLine.{FunctionLine}
 use Rattle.records.specs.declared.FunctionLine.the-variants as function
@@ -29,8 +30,8 @@ use Rattle.records.specs.declared.OperationTold.{OperationTold}
 use Rattle.records.specs.declared.OperationTold.the-variants as operations
 use Rattle.records.specs.declared.SafepointLine.{SafepointLine}
 use Rattle.records.specs.declared.SafepointLine.the-variants as safepoints
-use Rattle.sheet.specs.Loaded.{sheet-of, so-far}
-use Rattle.sheet.specs.Reading.{Progress, lined-of, Stored, LineRead, begun}
+use Rattle.loaded.specs.Loaded.{sheet-of, so-far}
+use Rattle.sheet.specs.Reading.{Progress, lined-of, LineRead, begun}
 use Rattle.sheet.specs.declared.Lined.the-variants as lined
 use Rattle.sheet.proofs.LawsProgress.{sheet-so-far}
 

@@ -1,6 +1,6 @@
 -- The lines of a sheet, one after the other, and its end.
 use mathlib.Core.Path.{_≡_, refl, sym, ap, _∙_}
-use mathlib.Core.Bool.{true, false, _||_, true≢false}
+use mathlib.Core.Bool.{true, false, _||_, true≢false, not}
 use mathlib.Core.List.{List, _++_}
 use mathlib.Core.Option.{some}
 use Prim.Native.Nat.{ℕ, suc, _+_, _≤_, _<_}
@@ -19,13 +19,15 @@ use Rattle.layout.specs.Layout.{blocks-word, opened-word, begun-word, block-bas
 use Rattle.fields.specs.Fields.{line-at, line-end}
 use Rattle.fields.specs.Cursor.{lines-at, lines-past}
 use Rattle.records.specs.declared.Breach.{Breach}
-use Rattle.sheet.specs.Loaded.{sheet-of, so-far}
-use Rattle.sheet.specs.Reading.{Blank, Progress, lined-of, LineRead, loading-of, Load}
+use Rattle.loaded.specs.declared.Reached.{Reached}
+use Rattle.loaded.specs.Loaded.{reached-of, sheet-of, so-far}
+use Rattle.loaded.specs.Filling.{Blank}
+use Rattle.sheet.specs.Reading.{Progress, lined-of, LineRead, loading-of, Load}
 use Rattle.sheet.specs.Reading as reading
 use Rattle.sheet.specs.declared.Lined.the-variants as lined
 use Rattle.sheet.specs.declared.Loading as Loading
 use Rattle.sheet.specs.declared.Loading.the-variants as loading
-use Rattle.sheet.specs.Blocks.{length-blocks}
+use Rattle.loaded.specs.Blocks.{length-blocks}
 use Rattle.sheet.proofs.LawsProgress.{so-far-blank, so-far-begun}
 
 -- a sheet that is refused: its words may be anything
@@ -110,20 +112,24 @@ module _ {sheet : Bytes} {at line : ℕ} {words₀ words : List ℕ} (ahead : Ah
   at-end = ahead .gives ∙ rw (lines-past sheet at ended)
 
   -- "or the sheet ends with too few `B`"
-  pub too-few : (eqb (getD words begun-word 0) 0 || ltb (getD words opened-word 0) (getD words blocks-word 0)) ≡ true
+  pub too-few : {r : Reached} {blocks : ℕ} → r ≡ reached-of words → blocks ≡ getD words blocks-word 0 → (not (r .begun) || ltb (r .opened) blocks) ≡ true
       → Load sheet words₀ words (loading.Refused (record { number = 4; line = line }))
   unfolding read-end sheet-of
-  too-few e = refused-load (at-end ∙ go (ahead .progress) e) (ahead .same-length)
+  too-few q n e = refused-load (at-end ∙ go (ahead .progress) (rw (q, n) at e)) (ahead .same-length)
     where
-      go : Progress words → (eqb (getD words begun-word 0) 0 || ltb (getD words opened-word 0) (getD words blocks-word 0)) ≡ true
+      go : Progress words → (not (not (eqb (getD words begun-word 0) 0)) || ltb (getD words opened-word 0) (getD words blocks-word 0)) ≡ true
           → read-end line (so-far words) ≡ refused (record { number = 4; line = line })
       go (reading.blank p) e = rw (so-far-blank words p)
       go (reading.begun p) e = rw (so-far-begun words p, length-blocks words 0 (getD words opened-word 0), rw (p .begun) at e)
 
-  pub all-read : (eqb (getD words begun-word 0) 0 || ltb (getD words opened-word 0) (getD words blocks-word 0)) ≡ false → Load sheet words₀ words loading.Loaded
+  pub all-read : {r : Reached} {blocks : ℕ} → r ≡ reached-of words → blocks ≡ getD words blocks-word 0 → (not (r .begun) || ltb (r .opened) blocks) ≡ false
+      → Load sheet words₀ words loading.Loaded
   unfolding loading-of read-end sheet-of
-  all-read e = go (ahead .progress)
+  all-read q n f = go (ahead .progress)
     where
+      e : (not (not (eqb (getD words begun-word 0) 0)) || ltb (getD words opened-word 0) (getD words blocks-word 0)) ≡ false
+      e = rw (q, n) at f
+
       go : Progress words → Load sheet words₀ words loading.Loaded
       go (reading.blank p) = absurd (let z : true ≡ false = rw (p .zeros begun-word (omega arith)) at e in true≢false z)
       go (reading.begun p) =

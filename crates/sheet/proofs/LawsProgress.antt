@@ -1,11 +1,11 @@
 -- How far reading has come, in the paper's words: the sheet so far, the place of a line, and what a line is held against.
 use mathlib.Core.Path.{_≡_, refl, sym}
-use mathlib.Core.Bool.{false, not, _||_}
+use mathlib.Core.Bool.{false, not, _||_, true≢false}
 use mathlib.Core.List.{List}
 use mathlib.Core.Option.{none, some}
 use Prim.Native.Nat.{ℕ, zero, suc, _≤_, _<_}
 use native.Mathlib.Omega.{arith}
-use borrow.Author.Tests.{ne-eqb, eqb-false, leb-false}
+use borrow.Author.Tests.{not-false, ne-eqb, eqb-true, eqb-false, leb-false}
 use lib.Dec.{eqb, leb}
 use lib.ListN.{length, getD}
 use Rattle.lists.specs.Region.{region}
@@ -15,14 +15,15 @@ use Rattle.paper.specs.Limits.{max-steps}
 use Rattle.paper.specs.Refusals.{function-record, typed-record, block-record, step-record, empty, out-of-place, step-too-many, step-count, blank, so-far-of}
 use Rattle.layout.specs.Layout.{blocks-word, opened-word, steps-word, least-word, begun-word, typed-base, typed-words, all-words}
 use Rattle.records.specs.Records.{InPlace, Placed, Counted, CountsWithin, TypedBy, Least}
-use Rattle.records.specs.declared.Counts.{Counts}
+use Rattle.loaded.specs.declared.Counts.{Counts}
 use Rattle.records.specs.declared.Place.{Place}
-use Rattle.sheet.specs.Loaded.{blocks-at, sheet-of, so-far}
-use Rattle.sheet.specs.Reading.{Blank, Begun, Progress, counts-of, step-place}
+use Rattle.loaded.specs.declared.Reached.{Reached}
+use Rattle.loaded.specs.Loaded.{reached-of, blocks-at, sheet-of, so-far, counts-of}
+use Rattle.loaded.specs.Filling.{Blank, Begun}
+use Rattle.sheet.specs.Reading.{Progress, step-place}
 use Rattle.sheet.specs.Reading as reading
-use Rattle.sheet.proofs.LawsTyped.{listed-marked, ascending-one}
-use Rattle.sheet.proofs.LawsHeader.{none-typed}
-use Rattle.sheet.specs.Blocks.{length-blocks}
+use Rattle.loaded.specs.Typed.{listed-marked, ascending-one, none-typed}
+use Rattle.loaded.specs.Blocks.{length-blocks}
 
 -- the sheet so far
 
@@ -56,14 +57,25 @@ pub size-of : (l : List ℕ) → Progress l → all-words ≤ length l
 size-of l (reading.blank p) = p .size
 size-of l (reading.begun p) = p .bounds .size
 
--- where the `F` has not been read, and where it has
-pub blank-of : (l : List ℕ) → Progress l → getD l begun-word 0 ≡ 0 → Blank l
-blank-of l (reading.blank p) e = p
-blank-of l (reading.begun p) e = absurd (omega (arith, p .begun))
+-- where the `F` has not been read, and where it has and no `B`
+module _ (l : List ℕ) (p : Progress l) {r : Reached} (e : r ≡ reached-of l) where
+  pub blank-of : r .begun ≡ false → Blank l
+  blank-of b = go p (rw e at b)
+    where
+      go : Progress l → not (eqb (getD l begun-word 0) 0) ≡ false → Blank l
+      go (reading.blank p) b = p
+      go (reading.begun p) b = absurd (true≢false (rw (p .begun) at b))
 
-pub begun-of : (l : List ℕ) → Progress l → (getD l begun-word 0 ≡ 0 → ⊥) → Begun l
-begun-of l (reading.blank p) d = absurd (d (p .zeros begun-word (omega arith)))
-begun-of l (reading.begun p) d = p
+  pub typed-ready : (not (r .begun) || not (eqb (r .opened) 0)) ≡ false → Begun l × (getD l opened-word 0 ≡ 0)
+  typed-ready b = go p (rw e at b)
+    where
+      go : Progress l → (not (not (eqb (getD l begun-word 0) 0)) || not (eqb (getD l opened-word 0) 0)) ≡ false → Begun l × (getD l opened-word 0 ≡ 0)
+      go (reading.blank p) b = absurd (true≢false (rw (p .zeros begun-word (omega arith)) at b))
+      go (reading.begun p) b = (p, eqb-true _ _ (not-false _ (rw (p .begun) at b)))
+
+  -- there is room for a block
+  pub room-of : {blocks : ℕ} → blocks ≡ getD l blocks-word 0 → leb blocks (r .opened) ≡ false → getD l opened-word 0 < getD l blocks-word 0
+  room-of n b = leb-false (getD l blocks-word 0) (getD l opened-word 0) (rw (e, n) at b)
 
 begun-by-opened : (l : List ℕ) → Progress l → (getD l opened-word 0 ≡ 0 → ⊥) → Begun l
 begun-by-opened l (reading.blank p) d = absurd (d (p .zeros opened-word (omega arith)))
@@ -99,7 +111,7 @@ module _ (l : List ℕ) where
   function-place (reading.blank p) a b c d e = rw (so-far-blank l p, p .zeros begun-word (omega arith))
   function-place (reading.begun p) a b c d e = rw (so-far-begun l p, p .begun)
 
-  typed-place : (p : Progress l) (n : ℕ) → out-of-place (so-far l) (typed-record n) ≡ (eqb (getD l begun-word 0) 0 || not (eqb (getD l opened-word 0) 0))
+  typed-place : (p : Progress l) (n : ℕ) → out-of-place (so-far l) (typed-record n) ≡ (not (not (eqb (getD l begun-word 0) 0)) || not (eqb (getD l opened-word 0) 0))
   unfolding out-of-place sheet-of
   typed-place (reading.blank p) n = rw (so-far-blank l p, p .zeros begun-word (omega arith))
   typed-place (reading.begun p) n = rw (so-far-begun l p, p .begun, empty-blocks l (getD l opened-word 0))
@@ -120,17 +132,18 @@ module _ (l : List ℕ) where
   steps-many (reading.begun p) x = rw (p .counted)
 
 module _ (l : List ℕ) (p : Progress l) where
-  pub function-placed : (a b c d e : ℕ) → Placed (so-far l) (function-record a b c d e) (record { misplaced = not (eqb (getD l begun-word 0) 0); surplus = false })
+  pub function-placed : {r : Reached} → r ≡ reached-of l → (a b c d e : ℕ) → Placed (so-far l) (function-record a b c d e) (record { misplaced = r .begun; surplus = false })
   unfolding step-too-many
-  function-placed a b c d e = record { where-it-stands = function-place l p a b c d e; how-many = refl }
+  function-placed q a b c d e = rw q (record { where-it-stands = function-place l p a b c d e; how-many = refl })
 
-  pub typed-placed : (n : ℕ) → Placed (so-far l) (typed-record n) (record { misplaced = eqb (getD l begun-word 0) 0 || not (eqb (getD l opened-word 0) 0); surplus = false })
+  pub typed-placed : {r : Reached} → r ≡ reached-of l → (n : ℕ) → Placed (so-far l) (typed-record n) (record { misplaced = not (r .begun) || not (eqb (r .opened) 0); surplus = false })
   unfolding step-too-many
-  typed-placed n = record { where-it-stands = typed-place l p n; how-many = refl }
+  typed-placed q n = rw q (record { where-it-stands = typed-place l p n; how-many = refl })
 
-  pub block-placed : (ns : List ℕ) → Placed (so-far l) (block-record ns) (record { misplaced = leb (getD l blocks-word 0) (getD l opened-word 0); surplus = false })
+  pub block-placed : {r : Reached} {blocks : ℕ} → r ≡ reached-of l → blocks ≡ getD l blocks-word 0 → (ns : List ℕ)
+      → Placed (so-far l) (block-record ns) (record { misplaced = leb blocks (r .opened); surplus = false })
   unfolding step-too-many
-  block-placed ns = record { where-it-stands = block-place l p ns; how-many = refl }
+  block-placed q e ns = rw (q, e) (record { where-it-stands = block-place l p ns; how-many = refl })
 
   pub step-placed : (place : Place) → place ≡ step-place l → (x : Step) → Placed (so-far l) (step-record x) place
   step-placed place e x = rw e (record { where-it-stands = step-out l p x; how-many = rw (sheet-so-far l p) (steps-many l p x) })
@@ -168,5 +181,5 @@ module _ (l : List ℕ) (p : Progress l) where
   pub so-far-typed : TypedBy (so-far-of (so-far l)) (region typed-base typed-words l)
   so-far-typed = rw (sheet-so-far l p) (typed-by l)
 
-  pub so-far-least : Least (so-far-of (so-far l)) (getD l least-word 0)
-  so-far-least = rw (sheet-so-far l p) (least-of l p)
+  pub so-far-least : {r : Reached} → r ≡ reached-of l → Least (so-far-of (so-far l)) (r .least)
+  so-far-least e = rw (sheet-so-far l p, e) (least-of l p)

@@ -1,10 +1,6 @@
-pub mod LawsTyped
 pub mod LawsText
-pub mod LawsHeader
-pub mod LawsBody
 pub mod LawsJudged
 pub mod LawsProgress
 pub mod LawsActions
-pub mod LawsOperands
 pub mod LawsLetters
 pub mod LawsLoad

@@ -1,4 +1,1 @@
-pub mod Loaded
 pub mod Reading
-pub mod Blocks
-pub mod Allocated

@@ -1,23 +1,20 @@
 -- How far reading has come, what one line does to the loaded words, and what loading a sheet promises.
 use mathlib.Core.Path.{_≡_}
-use mathlib.Core.List.{List, [], _∷_, _++_}
+use mathlib.Core.List.{List}
 use mathlib.Core.Option.{Option, some}
 use Prim.Native.Nat.{ℕ, _+_, _-_, _≤_, _<_}
 use lib.Dec.{eqb, leb}
 use lib.ListN.{length, getD}
-use Rattle.lists.specs.Region.{region}
 use Rattle.paper.specs.Text.{Bytes, line-feed}
-use Rattle.paper.specs.Sheet.{Sheet, reference-typed}
+use Rattle.paper.specs.Sheet.{Sheet}
 use Rattle.paper.specs.Limits.{max-steps, max-sheet}
-use Rattle.paper.specs.Refusals.{Record, Reading, loaded, refused, good, bad, step-count, ascending, add-record, read-record, read}
+use Rattle.paper.specs.Refusals.{Record, Reading, loaded, refused, good, bad, read-record, read}
 use Rattle.paper.specs.Refusals as paper
-use Rattle.layout.specs.Layout.{regs-word, slots-word, vregs-word, blocks-word, opened-word, steps-word, least-word, begun-word, typed-base, typed-words, block-base, all-words}
+use Rattle.layout.specs.Layout.{opened-word, steps-word}
 use Rattle.fields.specs.Fields.{line-end}
-use Rattle.steps.specs.Actions.{Ranged, Honest, Packs}
-use Rattle.steps.specs.declared.Action.{Action}
-use Rattle.records.specs.declared.Counts.{Counts}
 use Rattle.records.specs.declared.Place.{Place}
-use Rattle.sheet.specs.Loaded.{first-step, step-total, counts-in, blocks-at, marked-from, sheet-of, so-far, Bounds, Loaded}
+use Rattle.loaded.specs.Filling.{Blank, Begun}
+use Rattle.loaded.specs.Loaded.{sheet-of, so-far, Loaded}
 use Rattle.sheet.specs.declared.Lined as Lined
 use Rattle.sheet.specs.declared.Lined.the-variants as lined
 use Rattle.sheet.specs.declared.Loading as Loading
@@ -31,42 +28,13 @@ pub record SheetText (sheet : Bytes) : Type 0 where
 
 -- how far reading has come
 
--- before the `F`: the words below the blocks are all 0
-pub record Blank (words : List ℕ) : Type 0 where
-  pub size : all-words ≤ length words
-  pub zeros : (i : ℕ) → i < block-base → getD words i 0 ≡ 0
-
--- behind it: what the next `T` and the next step are held against
-pub record Begun (words : List ℕ) : Type 0 where
-  pub begun : getD words begun-word 0 ≡ 1
-  pub bounds : Bounds words
-  pub least : (n : ℕ) → ascending (marked-from 0 (region typed-base typed-words words) ++ (n ∷ [])) ≡ leb (getD words least-word 0) n
-  pub counted : step-count (blocks-at words 0 (getD words opened-word 0)) ≡ getD words steps-word 0
-  pub last : (b : ℕ) → b + 1 ≡ getD words opened-word 0 → first-step words b + step-total words b ≡ getD words steps-word 0
-
 pub data Progress (words : List ℕ) : Type 0 where
   blank : Blank words → Progress words
   begun : Begun words → Progress words
 
--- the counts of `F`
-abbrev pub counts-of : List ℕ → Counts
-counts-of words = record { regs = getD words regs-word 0; slots = getD words slots-word 0; vregs = getD words vregs-word 0; blocks = getD words blocks-word 0 }
-
 -- a step is out of place before the first block, and one too many behind the last that there is room for
 abbrev pub step-place : List ℕ → Place
 step-place words = record { misplaced = eqb (getD words opened-word 0) 0; surplus = leb max-steps (getD words steps-word 0) }
-
--- the action can be the next step
-pub record Fits (words : List ℕ) (action : Action) : Type 0 where
-  pub packs : Packs (getD words steps-word 0) action
-  pub ranged : Ranged (counts-in words) words action
-  pub honest : Honest (reference-typed (sheet-of words)) words action
-
--- the words hold one record more
-pub record Stored (before after : List ℕ) (r : Record) : Type 0 where
-  pub same-length : length after ≡ length before
-  pub meaning : sheet-of after ≡ add-record (sheet-of before) r
-  pub progress : Begun after
 
 -- one line
 

@@ -20,11 +20,12 @@ use Rattle.paper.specs.declared.Rule.{Rule}
 use Rattle.paper.specs.declared.Rule.the-variants.{Old, House}
 use Rattle.layout.specs.Layout.{regs-word, slots-word, blocks-word, state-at, mark-at, run-words}
 use Rattle.cells.specs.Packed.{name-of-word, marked, of-kind, cell-of}
-use Rattle.cells.specs.States.{cells-of, state-of, rows-at, stored-state}
+use Rattle.cells.specs.States.{row-counts, cells-of, state-of, rows-at, stored-state}
+use Rattle.cells.specs.declared.RowCounts.{RowCounts}
 use Rattle.report.specs.Lengths.{name-short}
 use Rattle.faults.specs.Blocks.{by-block-more}
-use Rattle.sheet.specs.Loaded.{sheet-of}
-use Rattle.runs.specs.Table.{mark-of}
+use Rattle.loaded.specs.Loaded.{sheet-of, counts-in}
+use Rattle.tables.specs.Table.{mark-of}
 use Rattle.states.specs.EntryStates.{mark-text, cell-text, cell-texts, visited-text, letter-D, block-text}
 use Rattle.states.specs.Stated.{HoldsStates, tabbed, row-text, head-text, longest-cell}
 
@@ -126,19 +127,27 @@ line-spelled b visited fs =
 
 module _ {rule : Rule} {words : List ℕ} {b : ℕ} (E : HoldsStates rule words) (h : b < getD words blocks-word 0) where
   -- the block's words lie in the lent words
-  pub block-room : (b < max-blocks) × (getD words regs-word 0 ≤ max-regs) × (getD words slots-word 0 ≤ max-slots) × (run-words ≤ length words)
-  block-room = (omega (arith, E .loaded .bounds .blocks), E .loaded .bounds .regs, E .loaded .bounds .slots, E .room)
+  pub block-room : (b < max-blocks) × (run-words ≤ length words)
+  block-room = (omega (arith, E .loaded .bounds .blocks), E .room)
 
-  -- its parts, one behind the other
-  pub wrote-block : {l l₁ l₂ l₃ l₄ : List ℕ} {at j k m n : ℕ} (visited : ℕ)
-      → ((o : Option State) → getD words (mark-at b) 0 ≡ mark-of o → (visited ∷ []) ≡ visited-text rule o)
-      → Wrote l at (head-text b visited) l₁ j → Wrote l₁ j (row-text (state-at b) (getD words regs-word 0) words) l₂ k
-      → Wrote l₂ k (row-text (state-at b + 32) (getD words slots-word 0) words) l₃ m → Wrote l₃ m (line-feed ∷ []) l₄ n
-      → Wrote l at (block-text rule (sheet-of words) b) l₄ n
-  unfolding block-text
-  wrote-block visited v p q r s =
-      rw (← v _ (E .marks b h), ← E .states b h, line-spelled, state-spelled)
-      (then (then p (then q r)) s)
+  module _ (counts : RowCounts) (e : row-counts counts ≡ counts-in words) where
+    -- as many cells as the words say
+    pub rows-room : (counts .regs ≤ max-regs) × (counts .slots ≤ max-slots)
+    rows-room =
+        let regs : counts .regs ≡ getD words regs-word 0 = ap (λ (l : List ℕ). getD l 0 0) e in
+        let slots : counts .slots ≡ getD words slots-word 0 = ap (λ (l : List ℕ). getD l 1 0) e in
+        (omega (arith, E .loaded .bounds .regs), omega (arith, E .loaded .bounds .slots))
+
+    -- its parts, one behind the other
+    pub wrote-block : {l l₁ l₂ l₃ l₄ : List ℕ} {at j k m n : ℕ} (visited : ℕ)
+        → ((o : Option State) → getD words (mark-at b) 0 ≡ mark-of o → (visited ∷ []) ≡ visited-text rule o)
+        → Wrote l at (head-text b visited) l₁ j → Wrote l₁ j (row-text (state-at b) (counts .regs) words) l₂ k
+        → Wrote l₂ k (row-text (state-at b + 32) (counts .slots) words) l₃ m → Wrote l₃ m (line-feed ∷ []) l₄ n
+        → Wrote l at (block-text rule (sheet-of words) b) l₄ n
+    unfolding block-text
+    wrote-block visited v p q r s =
+        rw (← v _ (E .marks b h), ← E .states b h, ← e, line-spelled, state-spelled)
+        (then (then p (then q r)) s)
 
 -- the lines
 

@@ -14,7 +14,7 @@ use Rattle.paper.specs.Answer.{too-short, laid, zeros}
 use Rattle.paper.specs.declared.Refusal.{Refusal}
 use Rattle.paper.specs.declared.Rule.{Rule}
 use Rattle.layout.specs.Layout.{blocks-word, run-words}
-use Rattle.sheet.specs.Loaded.{sheet-of, Loaded}
+use Rattle.loaded.specs.Loaded.{sheet-of, Loaded}
 use Rattle.sheet.specs.Reading.{Load}
 use Rattle.sheet.specs.declared.Loading as Loading
 use Rattle.sheet.specs.declared.Loading.the-variants as loading

@@ -13,8 +13,8 @@ use Rattle.paper.specs.declared.Rule.{Rule}
 use Rattle.layout.specs.Layout.{regs-word, slots-word, blocks-word, state-at, mark-at, run-words}
 use Rattle.cells.specs.Packed.{cell-of}
 use Rattle.cells.specs.States.{stored-state}
-use Rattle.sheet.specs.Loaded.{sheet-of, Loaded, counts-in}
-use Rattle.runs.specs.Table.{mark-of}
+use Rattle.loaded.specs.Loaded.{sheet-of, Loaded, counts-in}
+use Rattle.tables.specs.Table.{mark-of}
 use Rattle.states.specs.EntryStates.{cell-text, letter-D, entry-states}
 use Rattle.states.specs.declared.Part.{Part}
 use Rattle.states.specs.declared.Part.the-variants.{Answer, States}

@@ -12,18 +12,15 @@ ghost use Rattle.paper.specs.Steps as paper-steps;
 ghost use Rattle.paper.specs.Report.{by-block};
 ghost use Rattle.layout.specs.Layout.{blocks-word};
 ghost use Rattle.cells.specs.Packed.{name-of-word, marked, cell-of};
-ghost use Rattle.sheet.specs.Loaded.{sheet-of};
-ghost use Rattle.runs.specs.Table.{mark-of};
+ghost use Rattle.loaded.specs.Loaded.{sheet-of};
+ghost use Rattle.tables.specs.Table.{mark-of};
 ghost use Rattle.checker.specs.Checked.{lent, Stated};
 ghost use Rattle.states.specs.EntryStates as text;
 ghost use Rattle.states.specs.Stated.{part-text, Written, HoldsStates, row-text, head-text, longest-cell, longest-head, longest-line, longest-text};
 use faults::Missing;
-use layout::BLOCKS_WORD;
 use layout::MARK_BASE;
-use layout::REGS_WORD;
 use layout::REPORT_SIZE;
 use layout::ROW_WORDS;
-use layout::SLOTS_WORD;
 use layout::STATE_BASE;
 use layout::STATE_WORDS;
 use paper::Rule;
@@ -102,14 +99,13 @@ fn write_block(rule: Rule, words: &[u16], out: &mut [u8], at: usize, b: usize) -
     requires { ⌜ HoldsStates rule (now words) × (b < getD (now words) blocks-word 0) × (at + longest-line ≤ length (now out)) ⌝ }
     ensures { λ r. ⌜ Wrote (now (out .entry)) at (text.block-text rule (sheet-of (now (words .entry))) b) (now (out .exit)) r × (r ≤ at + longest-line) ⌝ }
 {
-    let regs = words[REGS_WORD] as usize;
-    let slots = words[SLOTS_WORD] as usize;
+    let counts = loaded::row_counts(words);
     let row = STATE_BASE + b * STATE_WORDS;
     let next_row = row + ROW_WORDS;
     let mark = visited(rule, words[MARK_BASE + b]);
     let head = write_head(out, at, b, mark);
-    let first = write_row(out, head, words, row, regs);
-    let second = write_row(out, first, words, next_row, slots);
+    let first = write_row(out, head, words, row, counts.regs);
+    let second = write_row(out, first, words, next_row, counts.slots);
     fields::write_byte(out, second, b'\n')
 }
 
@@ -118,7 +114,7 @@ fn write_blocks(rule: Rule, words: &[u16], out: &mut [u8]) -> usize
     requires { ⌜ HoldsStates rule (now words) × (report-size ≤ length (now out)) ⌝ }
     ensures { λ r. ⌜ Wrote (now (out .entry)) 0 (by-block (text.block-text rule (sheet-of (now (words .entry)))) 0 (getD (now (words .entry)) blocks-word 0)) (now (out .exit)) r × (r ≤ longest-text) ⌝ }
 {
-    let blocks = words[BLOCKS_WORD] as usize;
+    let blocks = loaded::blocks(words);
     let mut next = 0;
     let mut b = 0;
     while b < blocks {

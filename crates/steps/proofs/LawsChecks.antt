@@ -19,7 +19,7 @@ use Rattle.paper.specs.Steps.{slot, get, location-of, first-of, check-use, chec
 use Rattle.cells.specs.Packed.{name-of-word, marked, cell-of}
 use Rattle.cells.specs.States.{state-of}
 use Rattle.cells.specs.Laws.{pick-name, pick-other, same-name, is-named, unnamed, state-cell}
-use Rattle.steps.specs.Actions.{no-register, register-of, operand-of, operands}
+use Rattle.loaded.specs.Actions.{no-register, register-of, operand-of, operands}
 use Rattle.steps.specs.Faults.{fault-of}
 use Rattle.steps.specs.Checks.{use-error, change-error, slot-error, or-else, first-error, use-in, slot-in, is-error}
 use Rattle.steps.specs.declared.CheckerError.{CheckerError}

@@ -20,7 +20,7 @@ use Rattle.layout.specs.Layout.{defs-from}
 use Rattle.cells.specs.Packed.{name-of-word, marked, cell-of}
 use Rattle.cells.specs.States.{state-of}
 use Rattle.cells.specs.Laws.{made, state-cell, state-store}
-use Rattle.steps.specs.Actions.{no-register, register-of, operand-of, operands, step-of, action-at, steps-at}
+use Rattle.loaded.specs.Actions.{no-register, register-of, operand-of, operands, step-of, action-at, steps-at}
 use Rattle.steps.specs.Defs.{cleared-of, define-word, define-words}
 
 -- one def: t is what the rule leaves of the state before the register is written

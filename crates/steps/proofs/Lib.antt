@@ -1,3 +1,3 @@
-pub mod LawsPacking
+pub mod LawsMissing
 pub mod LawsChecks
 pub mod LawsEffects

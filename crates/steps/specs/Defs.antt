@@ -7,7 +7,7 @@ use Rattle.paper.specs.Steps.{State, location-of, put, everywhere}
 use Rattle.paper.specs.declared.Rule.{Rule}
 use Rattle.paper.specs.declared.Rule.the-variants.{Old, House}
 use Rattle.cells.specs.Packed.{name-of-word, marked}
-use Rattle.steps.specs.Actions.{register-of}
+use Rattle.loaded.specs.Actions.{register-of}
 
 -- under the house rule a name that is written anew stands nowhere else
 unfoldable pub cleared-of : Rule → Name → State → State

@@ -4,7 +4,7 @@ use mathlib.Core.List.{List, [], _∷_}
 use mathlib.Core.Option.{Option, none, some}
 use Rattle.paper.specs.Steps.{Fault, unknown-value-in-reg, incorrect-value-in-reg, unknown-value-in-slot, incorrect-value-in-slot, stack-map-specifies-non-ref-slot, stack-map-specifies-undefined-slot}
 use Rattle.cells.specs.Packed.{name-of-word}
-use Rattle.steps.specs.Actions.{register-of}
+use Rattle.loaded.specs.Actions.{register-of}
 use Rattle.steps.specs.declared.CheckerError.{CheckerError}
 use Rattle.steps.specs.declared.CheckerError.the-variants.{Nothing, UnknownValueInReg, IncorrectValueInReg, UnknownValueInSlot, IncorrectValueInSlot, StackMapSpecifiesNonRefSlot, StackMapSpecifiesUndefinedSlot}
 

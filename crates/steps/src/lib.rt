@@ -1,67 +1,29 @@
-// A step as a small enum, its packing in the lent words, its check and its effect under either rule.
+// A step's check and its effect under either rule, and whether it lacks an allocation.
 ghost use mathlib.Core.Path.{_≡_};
 ghost use mathlib.Core.Bool.{Bool};
-ghost use mathlib.Core.List.{List, [], _∷_};
-ghost use Prim.Native.Nat.{ℕ, _+_, _*_, _/_, _≤_, _<_};
+ghost use mathlib.Core.List.{List};
+ghost use Prim.Native.Nat.{ℕ, _+_, _/_, _≤_, _<_};
 ghost use lib.ListN.{length, getD};
-ghost use Rattle.lists.specs.Kept.{Kept};
 ghost use Rattle.lists.specs.Region.{region};
 ghost use Rattle.lists.specs.Bits.{set-bits};
 ghost use Rattle.paper.specs.Text.{Name};
 ghost use Rattle.paper.specs.Sheet as sheet;
 ghost use Rattle.paper.specs.Steps as paper;
 ghost use Rattle.paper.specs.Report.{unallocated, missing-names, inst-of};
-ghost use Rattle.paper.specs.Limits.{max-regs, max-slots, max-steps};
-ghost use Rattle.layout.specs.Layout.{step-base, step-words, row-widths, all-words};
+ghost use Rattle.paper.specs.Limits.{max-regs, max-slots};
+ghost use Rattle.layout.specs.Layout.{row-widths};
 ghost use Rattle.cells.specs.Packed.{name-of-word};
 ghost use Rattle.cells.specs.States.{state-of, RowsFit};
-ghost use Rattle.steps.specs.Actions.{operands, step-of, action-at, steps-at, InRange, Honest, packed, Packs, RoomFor, Runnable, HonestSteps};
+ghost use Rattle.loaded.specs.Actions.{operands, step-of, steps-at, InRange, Honest, RoomFor, Runnable, HonestSteps};
 ghost use Rattle.steps.specs.Faults.{fault-of, some-in};
 ghost use Rattle.steps.specs.Checks.{is-error, use-error, change-error, slot-error, first-error, use-in, slot-in};
 ghost use Rattle.steps.specs.Defs.{define-word, define-words};
 use cells::State;
 use layout::DEFS_FROM;
-use layout::OPERAND_BASE;
-use layout::OPERAND_WORDS;
 use layout::ROW_WORDS;
-use layout::STEP_BASE;
-use layout::STEP_WORDS;
+use loaded::Action;
+use loaded::NO_REGISTER;
 use paper::Rule;
-
-// The register of an operand that has no allocation.
-pub const NO_REGISTER: u16 = 63;
-
-// A step. An operation's uses stand in the lent words from `at` on, its defs from `at + DEFS_FROM` on.
-pub enum Action {
-    Spill {
-        slot: usize,
-        reg: usize,
-    },
-    Reload {
-        reg: usize,
-        slot: usize,
-    },
-    Move {
-        into: usize,
-        from: usize,
-    },
-    Change {
-        inst: u16,
-        slot: usize,
-        from: u16,
-        to: u16,
-    },
-    Operation {
-        inst: u16,
-        at: usize,
-        uses: usize,
-        defs: usize,
-    },
-    Safepoint {
-        inst: u16,
-        mask: u32,
-    },
-}
 
 // What a check finds.
 pub enum CheckerError {
@@ -89,100 +51,6 @@ pub enum CheckerError {
     StackMapSpecifiesUndefinedSlot {
         slot: usize,
     },
-}
-
-// A mask from its two halves.
-fn mask_of(low: u16, high: u16) -> u32
-    ensures { λ r. ⌜ r ≡ low + high * 65536 ⌝ }
-{
-    low as u32 + high as u32 * 65536
-}
-
-// The k-th step of the sheet.
-pub fn action_at(words: &[u16], k: usize) -> Action
-    requires { ⌜ (k < max-steps) × (all-words ≤ length (now words)) ⌝ }
-    ensures { λ r. ⌜ r ≡ action-at (now (words .entry)) k ⌝ }
-{
-    let at = STEP_BASE + k * STEP_WORDS;
-    let w = words[at];
-    let inst = words[at + 1];
-    let x = words[at + 2];
-    let y = words[at + 3];
-    let tag = w % 8;
-    let a = (w / 8 % 64) as usize;
-    let b = (w / 512 % 64) as usize;
-    match tag {
-        0 => Action::Spill { slot: a, reg: b },
-        1 => Action::Reload { reg: a, slot: b },
-        2 => Action::Move { into: a, from: b },
-        3 => Action::Change {
-            inst: inst,
-            slot: a,
-            from: x,
-            to: y,
-        },
-        4 => Action::Operation {
-            inst: inst,
-            at: OPERAND_BASE + k * OPERAND_WORDS,
-            uses: a,
-            defs: b,
-        },
-        _ => Action::Safepoint {
-            inst: inst,
-            mask: mask_of(x, y),
-        },
-    }
-}
-
-fn head(tag: usize, a: usize, b: usize) -> u16
-    requires { ⌜ (tag < 8) × (a < 64) × (b < 64) ⌝ }
-    ensures { λ r. ⌜ r ≡ tag + a * 8 + b * 512 ⌝ }
-{
-    (tag + a * 8 + b * 512) as u16
-}
-
-// The four words of a step.
-fn packed(action: Action) -> [u16; STEP_WORDS]
-    requires { ⌜ ((k : ℕ) × Packs k action) ⌝ }
-    ensures { λ r. ⌜ r ≡ packed action ⌝ }
-{
-    match action {
-        Action::Spill { slot, reg } => [head(0, slot, reg), 0, 0, 0],
-        Action::Reload { reg, slot } => [head(1, reg, slot), 0, 0, 0],
-        Action::Move { into, from } => [head(2, into, from), 0, 0, 0],
-        Action::Change {
-            inst,
-            slot,
-            from,
-            to,
-        } => [head(3, slot, 0), inst, from, to],
-        Action::Operation {
-            inst,
-            at: _,
-            uses,
-            defs,
-        } => [head(4, uses, defs), inst, 0, 0],
-        Action::Safepoint { inst, mask } => [
-            head(5, 0, 0),
-            inst,
-            (mask % 65536) as u16,
-            (mask / 65536) as u16,
-        ],
-    }
-}
-
-// The k-th step of the sheet is written.
-pub fn put_action(words: &mut [u16], k: usize, action: Action)
-    requires { ⌜ (k < max-steps) × (all-words ≤ length (now words)) × Packs k action ⌝ }
-    ensures { λ r. ⌜ (action-at (now (words .exit)) k ≡ action) × Kept (step-base + k * step-words) step-words (now (words .entry)) (now (words .exit)) ⌝ }
-{
-    let p = packed(action);
-    let at = STEP_BASE + k * STEP_WORDS;
-    let mut i = 0;
-    while i < STEP_WORDS {
-        words[at + i] = p[i];
-        i += 1;
-    }
 }
 
 // The inst of a step that can have a fault.
@@ -451,7 +319,7 @@ pub fn effects(words: &[u16], rule: Rule, s: State, first: usize, count: usize) 
     let mut k = first;
     let mut left = count;
     while 0 < left {
-        let action = action_at(words, k);
+        let action = loaded::action_at(words, k);
         update(words, rule, &mut t, action);
         k += 1;
         left -= 1;

@@ -3,7 +3,7 @@ use native.Mathlib.Omega.{arith}
 use mathlib.Core.Path.{_≡_, refl}
 use mathlib.Core.List.{[]}
 use Rattle.paper.specs.Report.{missing-allocations}
-use Rattle.sheet.specs.Loaded.{sheet-of}
+use Rattle.loaded.specs.Loaded.{sheet-of}
 use Rattle.faults.specs.Reported.{Checkable}
 use Rattle.checker.proofs.Laws.{reported, nothing-missing, same-sheet, checkable}
 use borrow.Author.Needs.{needs}

@@ -1,14 +1,14 @@
 -- `check_block` meets its contract: t is the state behind the steps so far, the pass has been over their faults, and the steps left
 -- get fewer. No allocation is missing, so each step's numbers are below the counts: it can be checked and run, and its line is short.
-use mathlib.Core.Path.{_≡_, refl}
-use Prim.Native.Nat.{_+_, _*_, _-_, _≤_}
+use mathlib.Core.Path.{_≡_, refl, ap, _∙_}
+use Prim.Native.Nat.{ℕ, _+_, _*_, _-_, _≤_}
 use native.Mathlib.Omega.{arith}
 use lib.ListN.{length, getD}
 use Rattle.paper.specs.Limits.{longest-fault-line}
-use Rattle.steps.specs.Laws.{in-range-most}
-use Rattle.sheet.specs.Allocated.{in-range-at, honest-at}
-use Rattle.steps.specs.Actions.{InRange}
-use Rattle.sheet.specs.Loaded.{step-total, counts-in}
+use Rattle.loaded.specs.Laws.{in-range-most}
+use Rattle.loaded.specs.Allocated.{in-range-at, honest-at}
+use Rattle.loaded.specs.Actions.{action-at, InRange}
+use Rattle.loaded.specs.Loaded.{first-step, step-total, counts-in}
 use Rattle.faults.proofs.LawsErrors.{error-within}
 use Rattle.faults.proofs.LawsBlock.{SoFar, BlockWithin, block-within, so-far-none, so-far-all, so-far-more}
 use borrow.Author.Needs.{needs}
@@ -17,19 +17,19 @@ use Rattle.faults.proofs.check_block.Statement.{statement}
 use Rattle.faults.proofs.check_block.Tie as tie
 
 abbrev Inv-loop : tie.InvT-loop
-Inv-loop pass rule words report₀ at block base first count t₀ next₀ place₀ report t next place =
-    (place ≤ count) × (next ≤ at + longest-fault-line * place) × (length report ≡ length report₀)
+Inv-loop pass rule words report₀ at block first count t₀ next₀ place₀ report t next place =
+    (place ≤ step-total words block) × (next ≤ at + longest-fault-line * place) × (length report ≡ length report₀)
     × SoFar pass rule words block place t report₀ at report next
 
 abbrev μ-loop : tie.MeasureT-loop
-μ-loop pass rule words report₀ at block base first count t₀ next₀ place₀ report t next place =
+μ-loop pass rule words report₀ at block first count t₀ next₀ place₀ report t next place =
     count - place
 
 -- what the function was given, from each place
-abbrev start2 : tie.After-shared-slice-known2 Inv-loop μ-loop → tie.Start Inv-loop μ-loop
+abbrev start2 : tie.After-first-step Inv-loop μ-loop → tie.Start Inv-loop μ-loop
 start2 c = c .before .before .before
 
-abbrev start3 : tie.After-shared-slice-known3 Inv-loop μ-loop → tie.Start Inv-loop μ-loop
+abbrev start3 : tie.After-step-total Inv-loop μ-loop → tie.Start Inv-loop μ-loop
 start3 c = start2 (c .before)
 
 abbrev start-of : tie.In-loop Inv-loop μ-loop → tie.Start Inv-loop μ-loop
@@ -38,12 +38,19 @@ start-of c = start3 (c .before .before .before)
 within : (c : tie.Start Inv-loop μ-loop) → BlockWithin (c .args .words .now) (c .args .block)
 within c = block-within (c .pre .0 .loaded) (c .pre .1)
 
+-- the step that a turn checks
+here : (c : tie.After-action-at Inv-loop μ-loop) → let s = start-of (c .before) .args in
+    c .action-at .result ≡ action-at (s .words .now) (first-step (s .words .now) (s .block) + c .before .before .loop .place)
+here c =
+    let i = c .before in
+    c .action-at .ensures ∙ ap (λ (n : ℕ). action-at (start-of i .args .words .now) (n + i .before .loop .place)) (i .before .before .before .before .first-step .ensures)
+
 -- the step's numbers are below the counts
 ranged : (c : tie.After-action-at Inv-loop μ-loop) → let words = start-of (c .before) .args .words .now in
     InRange (counts-in words) words (c .action-at .result)
 ranged c =
     let s = start-of (c .before) in
-    rw (c .action-at .ensures) (in-range-at (s .pre .0 .loaded) _ (s .pre .1) (s .pre .0 .allocated) _ (omega arith))
+    rw (here c) (in-range-at (s .pre .0 .loaded) _ (s .pre .1) (s .pre .0 .allocated) _ (omega arith))
 
 ranged-most : (c : tie.After-action-at Inv-loop μ-loop)
     → InRange row-widths (start-of (c .before) .args .words .now) (c .action-at .result)
@@ -54,32 +61,13 @@ ranged-most c =
     in-range-most (counts-in words) words (c .action-at .result) (w .rows) (ranged c)
 
 -- the prover's list of needs
-mul-base : tie.Need-mul-base Inv-loop μ-loop
-mul-base c = search needs
+first-step-requires : tie.Need-first-step-requires Inv-loop μ-loop
+first-step-requires c κs = let w = within (c .before .before) in
+    (omega arith, omega arith)
 
-add-base : tie.Need-add-base Inv-loop μ-loop
-add-base c = search needs
-
-mul-first : tie.Need-mul-first Inv-loop μ-loop
-mul-first c = search needs
-
-shared-slice-read-first : tie.Need-shared-slice-read-first Inv-loop μ-loop
-shared-slice-read-first c = omega (arith, within (start2 c))
-
-cast-first : tie.Need-cast-first Inv-loop μ-loop
-cast-first c = omega (arith, within (start2 c))
-
-add-count : tie.Need-add-count Inv-loop μ-loop
-add-count c = omega (arith, within (start2 c))
-
-mul-count : tie.Need-mul-count Inv-loop μ-loop
-mul-count c = search needs
-
-shared-slice-read-count : tie.Need-shared-slice-read-count Inv-loop μ-loop
-shared-slice-read-count c = omega (arith, within (start3 c))
-
-cast-count : tie.Need-cast-count Inv-loop μ-loop
-cast-count c = omega (arith, within (start3 c))
+step-total-requires : tie.Need-step-total-requires Inv-loop μ-loop
+step-total-requires c κs = let w = within (start2 c) in
+    (omega arith, omega arith)
 
 mul-load : tie.Need-mul-load Inv-loop μ-loop
 mul-load c = search needs
@@ -133,8 +121,8 @@ loop-again c = let n = c .before .before .before .before in
       omega arith,
       omega arith,
       omega arith,
-      so-far-more _ _ _ (a .action-at .ensures) (n .before .before .before .check .ensures _ (ranged a)) (n .before .before .inst-of .ensures _)
-          (c .update .ensures _ (within s .rows) (ranged a) _ (rw (a .action-at .ensures) (honest-at (s .pre .0 .loaded) _ (s .pre .1) _ (omega arith))))
+      so-far-more _ _ _ (here a) (n .before .before .before .check .ensures _ (ranged a)) (n .before .before .inst-of .ensures _)
+          (c .update .ensures _ (within s .rows) (ranged a) _ (rw (here a) (honest-at (s .pre .0 .loaded) _ (s .pre .1) _ (omega arith))))
           (l .loop .inv .3) (n .count-or-write .ensures .0),
     )
 
@@ -152,15 +140,8 @@ check-block-spec =
     (tie.spec
     Inv-loop
     μ-loop
-    mul-base
-    add-base
-    mul-first
-    shared-slice-read-first
-    cast-first
-    add-count
-    mul-count
-    shared-slice-read-count
-    cast-count
+    first-step-requires
+    step-total-requires
     mul-load
     add-load
     load-requires

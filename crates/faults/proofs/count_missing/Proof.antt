@@ -5,7 +5,7 @@ use Prim.Native.Nat.{_-_, _≤_}
 use native.Mathlib.Omega.{arith}
 use lib.ListN.{length}
 use Rattle.paper.specs.Report.{unallocated}
-use Rattle.steps.specs.Actions.{operands}
+use Rattle.loaded.specs.Actions.{operands}
 use Rattle.faults.proofs.LawsOperands.{missing-none, counted-more, counted-same}
 use Rattle.faults.proofs.count_missing.Statement.{statement}
 use Rattle.faults.proofs.count_missing.Tie as tie

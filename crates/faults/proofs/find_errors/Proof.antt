@@ -7,7 +7,7 @@ use lib.ListN.{length, getD}
 use Rattle.paper.specs.Limits.{longest-fault-line}
 use Rattle.paper.specs.Report.{block-faults, by-block}
 use Rattle.layout.specs.Layout.{blocks-word}
-use Rattle.sheet.specs.Loaded.{sheet-of}
+use Rattle.loaded.specs.Loaded.{sheet-of}
 use Rattle.faults.specs.Passes.{AfterPass}
 use Rattle.faults.proofs.LawsFaults.{count-from}
 use Rattle.faults.proofs.LawsBlock.{count-next, count-within, blocks-none, blocks-more, blocks-all}
@@ -28,11 +28,8 @@ abbrev start-of : tie.At-loop Inv-loop μ-loop → tie.Start Inv-loop μ-loop
 start-of c = c .before .before .before .before
 
 -- the prover's list of needs
-shared-slice-read-blocks : tie.Need-shared-slice-read-blocks Inv-loop μ-loop
-shared-slice-read-blocks c = omega (arith, c .before .before .before .pre .0 .loaded .bounds)
-
-cast-blocks : tie.Need-cast-blocks Inv-loop μ-loop
-cast-blocks c = omega (arith, c .before .before .before .pre .0 .loaded .bounds)
+blocks-requires : tie.Need-blocks-requires Inv-loop μ-loop
+blocks-requires c κs = c .before .before .pre .0 .loaded .bounds .size
 
 loop-holds : tie.Need-loop-holds Inv-loop μ-loop
 loop-holds c = (omega arith, omega arith, refl, blocks-none _ _ _ _ _)
@@ -74,8 +71,7 @@ find-errors-spec =
     (tie.spec
     Inv-loop
     μ-loop
-    shared-slice-read-blocks
-    cast-blocks
+    blocks-requires
     loop-holds
     check-block-requires
     add-block

@@ -3,8 +3,10 @@
 use mathlib.Core.Path.{_≡_, refl, sym, _∙_}
 use Prim.Native.Nat.{_-_, _≤_}
 use native.Mathlib.Omega.{arith}
+use lib.ListN.{getD}
+use Rattle.layout.specs.Layout.{blocks-word}
 use Rattle.paper.specs.Report.{missing-blocks, missing-allocations}
-use Rattle.sheet.specs.Loaded.{sheet-of}
+use Rattle.loaded.specs.Loaded.{sheet-of}
 use Rattle.faults.specs.Missing.{missing-lines}
 use Rattle.faults.proofs.LawsMissing.{blocks-start, block-here, block-later, blocks-ended, some-lines, no-lines-found}
 use borrow.Author.Needs.{needs}
@@ -13,7 +15,8 @@ use Rattle.faults.proofs.find_missing.Tie as tie
 
 abbrev Inv-loop : tie.InvT-loop
 Inv-loop words count block₀ block =
-    (block ≤ count) × (missing-allocations (sheet-of words) ≡ missing-blocks (sheet-of words) block (count - block))
+    (block ≤ getD words blocks-word 0)
+    × (missing-allocations (sheet-of words) ≡ missing-blocks (sheet-of words) block (getD words blocks-word 0 - block))
 
 abbrev μ-loop : tie.MeasureT-loop
 μ-loop words count block₀ block = count - block
@@ -23,11 +26,8 @@ abbrev start-of : tie.At-loop Inv-loop μ-loop → tie.Start Inv-loop μ-loop
 start-of c = c .before .before .before
 
 -- the prover's list of needs
-shared-slice-read-count : tie.Need-shared-slice-read-count Inv-loop μ-loop
-shared-slice-read-count c = omega (arith, c .before .before .pre .bounds)
-
-cast-count : tie.Need-cast-count Inv-loop μ-loop
-cast-count c = omega (arith, c .before .before .pre .bounds)
+blocks-requires : tie.Need-blocks-requires Inv-loop μ-loop
+blocks-requires c κs = c .before .pre .bounds .size
 
 loop-holds : tie.Need-loop-holds Inv-loop μ-loop
 unfolding missing-allocations sheet-of
@@ -70,8 +70,7 @@ find-missing-spec =
     (tie.spec
     Inv-loop
     μ-loop
-    shared-slice-read-count
-    cast-count
+    blocks-requires
     loop-holds
     find-in-block-requires
     is-found-requires

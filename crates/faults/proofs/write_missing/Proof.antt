@@ -8,12 +8,12 @@ use native.Mathlib.Omega.{arith}
 use denote.Enum.Declared.{tagOf}
 use types.Run.{OneOf, miss}
 use Rattle.paper.specs.Report.{missing-names, faults}
-use Rattle.steps.proofs.Action.{the-type}
-use Rattle.steps.specs.declared.Action.{Action}
-use Rattle.steps.specs.declared.Action.the-variants.{Spill, Reload, Move, Change, Operation, Safepoint}
-use Rattle.steps.specs.Actions.{step-of, RoomFor}
+use Rattle.loaded.proofs.Action.{the-type}
+use Rattle.loaded.specs.declared.Action.{Action}
+use Rattle.loaded.specs.declared.Action.the-variants.{Spill, Reload, Move, Change, Operation, Safepoint}
+use Rattle.loaded.specs.Actions.{step-of, RoomFor}
 use Rattle.steps.specs.Faults.{some-in}
-use Rattle.sheet.specs.Loaded.{sheet-of}
+use Rattle.loaded.specs.Loaded.{sheet-of}
 use Rattle.report.specs.Lines.{PositionWithin}
 use Rattle.faults.specs.Missing.{step-lines}
 use Rattle.faults.proofs.LawsBlock.{room-at}

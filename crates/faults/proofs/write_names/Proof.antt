@@ -7,7 +7,7 @@ use lib.ListN.{length}
 use Rattle.lists.specs.Sets.{Wrote}
 use Rattle.paper.specs.Limits.{longest-fault-line}
 use Rattle.paper.specs.Report.{unallocated, lines-text}
-use Rattle.steps.specs.Actions.{operands}
+use Rattle.loaded.specs.Actions.{operands}
 use Rattle.faults.specs.Errors.{names-at}
 use Rattle.faults.proofs.LawsOperands.{wrote-none, wrote-more}
 use borrow.Author.Needs.{needs}

@@ -3,7 +3,7 @@ use Prim.Native.Nat.{_-_}
 use native.Mathlib.Omega.{arith}
 use borrow.Author.Needs.{needs}
 use Rattle.paper.specs.Runs.{visit-bound}
-use Rattle.sheet.specs.Loaded.{sheet-of}
+use Rattle.loaded.specs.Loaded.{sheet-of}
 use Rattle.runs.proofs.LawsAnalysis.{Going, going-begins, going-continues, going-left, going-small, going-more, going-ends, going-ended, analysed-from, ended-from}
 use Rattle.runs.proofs.analyze.Statement.{statement}
 use Rattle.runs.proofs.analyze.Tie as tie

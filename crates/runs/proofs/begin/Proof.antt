@@ -1,36 +1,46 @@
 -- `begin` meets its contract: every block as it begins, then the entry with its state and waiting alone, is the run's beginning;
 -- the sheet's words are kept, so the entry is still a block.
+use mathlib.Core.Path.{_≡_}
 use native.Mathlib.Omega.{arith}
+use lib.ListN.{getD}
 use borrow.Author.Needs.{needs}
-use Rattle.layout.specs.Layout.{blocks-word}
-use Rattle.runs.proofs.LawsBegin.{begun}
+use Rattle.layout.specs.Layout.{regs-word, blocks-word}
+use Rattle.runs.proofs.LawsBegin.{regs-are, begun}
 use Rattle.runs.proofs.begin.Statement.{statement}
 use Rattle.runs.proofs.begin.Tie as tie
 
-slice-read-regs : tie.Need-slice-read-regs
-slice-read-regs c = search needs
+abbrev start-of : tie.After-begin-blocks → tie.Start
+start-of c = c .before .before .before .before .before .before .before .before
 
-cast-regs : tie.Need-cast-regs
-cast-regs c = search needs
+abbrev counts-at : tie.After-begin-blocks → tie.After-row-counts
+counts-at c = c .before .before .before .before
 
-slice-read-entry : tie.Need-slice-read-entry
-slice-read-entry c = search needs
+abbrev entry-at : tie.After-begin-blocks → tie.After-entry
+entry-at c = c .before .before
+
+regs-of : (c : tie.After-begin-blocks) → counts-at c .row-counts .result .regs ≡ getD (start-of c .args .words .now) regs-word 0
+regs-of c = regs-are (start-of c .args .words .now) (counts-at c .row-counts .result) (counts-at c .row-counts .ensures)
+
+row-counts-requires : tie.Need-row-counts-requires
+row-counts-requires c κs = search needs
+
+entry-requires : tie.Need-entry-requires
+entry-requires c κs = search needs
 
 begin-blocks-requires : tie.Need-begin-blocks-requires
 begin-blocks-requires c κs = search needs
 
-cast-enter : tie.Need-cast-enter
-cast-enter c = search needs
-
 entry-state-requires : tie.Need-entry-state-requires
-entry-state-requires c κs = search needs
+entry-state-requires c κs =
+    let b = c .before .before .before in
+    let a = start-of b in
+    omega (arith, a .pre .0 .loaded .bounds .regs, regs-of b)
 
 enter-requires : tie.Need-enter-requires
 enter-requires c κs =
     let b = c .before .before .before .before in
-    let a = b .before .before .before .before .before .before in
     let f = b .begin-blocks .ensures in
-    (f .1 .sheet .ready, omega (arith, a .pre .0 .loaded .bounds .entry, f .0 .below blocks-word (omega arith)))
+    (f .1 .sheet .ready, omega (arith, start-of b .pre .0 .loaded .bounds .entry, entry-at b .entry .ensures, f .0 .below blocks-word (omega arith)))
 
 cast-append : tie.Need-cast-append
 cast-append c = search needs
@@ -49,18 +59,15 @@ returns c =
     let p = c .before .before in
     let e = p .before .before .before .before in
     let b = e .before .before .before .before .before in
-    let a = b .before .before .before .before .before .before in
-    begun (a .pre .0) (b .begin-blocks .ensures .0) (b .begin-blocks .ensures .1) (e .enter .ensures) (e .before .entry-state .ensures) (p .append .ensures)
+    begun (start-of b .pre .0) (regs-of b) (entry-at b .entry .ensures) (b .begin-blocks .ensures .0) (b .begin-blocks .ensures .1) (e .enter .ensures) (e .before .entry-state .ensures) (p .append .ensures)
 
 pub begin-spec : {M : Type 1} → statement M
 begin-spec =
     tie.close
     (tie.spec
-    slice-read-regs
-    cast-regs
-    slice-read-entry
+    row-counts-requires
+    entry-requires
     begin-blocks-requires
-    cast-enter
     entry-state-requires
     enter-requires
     cast-append

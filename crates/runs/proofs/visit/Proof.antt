@@ -1,22 +1,25 @@
 -- `visit` meets its contract: after i turns the first i successors have got the result, and `total - i` falls; at the end this is
 -- one visit of the run. A settled block's visit changes nothing but the queue (`visited-settled`). Visits begun and blocks that wait
 -- are together within the visit bound, so each push has room.
-use Prim.Native.Nat.{ℕ, _+_, _*_, _-_}
+use Prim.Native.Nat.{ℕ, _-_, _<_}
 use native.Mathlib.Omega.{arith}
 use borrow.Author.Needs.{needs}
 use lib.ListN.{getD}
-use Rattle.layout.specs.Layout.{block-base, block-words}
+use Rattle.layout.specs.Layout.{succ-base}
+use Rattle.loaded.specs.Loaded.{succ-total}
 use Rattle.runs.specs.Queue.{Taken}
+use Rattle.runs.proofs.LawsPush.{pushed}
+use Rattle.runs.proofs.LawsSettled.{unsettled-came}
 use Rattle.runs.proofs.LawsVisit.{Serving, serving-none, serving-more, Settling, settling-none, settling-more, visited-settled, visited-run, still-allocated, first-below, Visiting, visiting, serving-ready, serving-block, serving-sound, serving-room}
 use Rattle.runs.proofs.visit.Statement.{statement}
 use Rattle.runs.proofs.visit.Tie as tie
 
 abbrev Inv-loop : tie.InvT-loop
-Inv-loop table rule words₀ queue₀ settled₀ head b waiting₀ result at total i₀ words queue settled waiting i =
-    Serving rule words₀ queue₀ waiting₀ result (at + 3) total words queue waiting i × Settling rule words₀ queue₀ waiting₀ result (at + 3) total settled₀ settled i
+Inv-loop table rule words₀ queue₀ settled₀ head b waiting₀ result total i₀ words queue settled waiting i =
+    Serving rule words₀ queue₀ waiting₀ result (succ-base b) (succ-total words₀ b) words queue waiting i × Settling rule words₀ queue₀ waiting₀ result (succ-base b) (succ-total words₀ b) settled₀ settled i
 
 abbrev μ-loop : tie.MeasureT-loop
-μ-loop table rule words₀ queue₀ settled₀ head b waiting₀ result at total i₀ words queue settled waiting i = total - i
+μ-loop table rule words₀ queue₀ settled₀ head b waiting₀ result total i₀ words queue settled waiting i = total - i
 
 abbrev start-of : tie.After-take Inv-loop μ-loop → tie.Start Inv-loop μ-loop
 start-of c = c .before .before .before .before
@@ -25,7 +28,7 @@ abbrev take-of : tie.After-through Inv-loop μ-loop → tie.After-take Inv-loop 
 take-of c = c .before .before .before .before
 
 abbrev through-of : tie.In-loop Inv-loop μ-loop → tie.After-through Inv-loop μ-loop
-through-of c = c .before .before .before
+through-of c = c .before .before .before .before
 
 -- the queue without its first block
 taken : (c : tie.After-take Inv-loop μ-loop) → let s = start-of c .args in
@@ -65,49 +68,26 @@ through-requires c κs =
     let k = taken t in
     (g .running .stands .tables .sheet .ready, still-allocated g k, first-below g k)
 
-mul-at : tie.Need-mul-at Inv-loop μ-loop
-mul-at c = let v = visited c in omega (arith, v .small)
-
-add-at : tie.Need-add-at Inv-loop μ-loop
-add-at c = let v = visited c in omega (arith, v .small)
-
-add-total : tie.Need-add-total Inv-loop μ-loop
-add-total c = let v = visited c in omega (arith, v .small)
-
-mul-total : tie.Need-mul-total Inv-loop μ-loop
-mul-total c = let v = visited c in omega (arith, v .small)
-
-slice-read-total : tie.Need-slice-read-total Inv-loop μ-loop
-slice-read-total c = let v = visited (c .before) in omega (arith, v .small, v .size)
-
-cast-total : tie.Need-cast-total Inv-loop μ-loop
-cast-total c = omega (arith, c .slice-known4 .given (block-base + first (c .before) * block-words + 2))
+succ-total-requires : tie.Need-succ-total-requires Inv-loop μ-loop
+succ-total-requires c κs = let v = visited (c .before) in (v .size, v .small)
 
 loop-holds : tie.Need-loop-holds Inv-loop μ-loop
 loop-holds c = (serving-none, settling-none)
 
-add-s : tie.Need-add-s Inv-loop μ-loop
-add-s c = let v = visited (through-of c) in omega (arith, v .small)
+-- the next successor is one of the block's
+served : (c : tie.In-loop Inv-loop μ-loop) → c .before .loop .i < succ-total (start-of (take-of (through-of c)) .args .words .now) (first (through-of c))
+served c = omega (arith, c .loop-test .taken, c .before .before .succ-total .ensures)
 
-add-s-2 : tie.Need-add-s-2 Inv-loop μ-loop
-add-s-2 c = let v = visited (through-of c) in omega (arith, v .small, v .succs)
+successor-requires : tie.Need-successor-requires Inv-loop μ-loop
+successor-requires c κs =
+    let i = c .before in
+    let v = visited (through-of i) in
+    (omega (arith, v .size, i .before .loop .inv .0 .moved .kept .same-length), v .small, omega (arith, v .succs, served i))
 
-mul-s : tie.Need-mul-s Inv-loop μ-loop
-mul-s c = let v = visited (through-of c) in omega (arith, v .small, v .succs)
-
-slice-read-s : tie.Need-slice-read-s Inv-loop μ-loop
-slice-read-s c =
-    let v = visited (through-of (c .before)) in
-    omega (arith, v .small, v .succs, v .size, c .before .before .loop .inv .0 .moved .kept .same-length)
-
-cast-s : tie.Need-cast-s Inv-loop μ-loop
-cast-s c =
-    let b = first (through-of (c .before)) in
-    omega (arith, c .slice-known5 .given (block-base + b * block-words + 3 + c .before .before .loop .i))
-
-push-requires : tie.Need-push-requires Inv-loop μ-loop
-push-requires c κs =
-    let i = c .before .before .before .before in
+join-requires : tie.Need-join-requires Inv-loop μ-loop
+join-requires c κs =
+    let n = c .before in
+    let i = n .before .before in
     let h = through-of i in
     let t = take-of h in
     let a = start-of t in
@@ -115,25 +95,41 @@ push-requires c κs =
     let k = taken t in
     let s = i .before .loop .inv .0 in
     let w = h .through .ensures in
-    (a .pre .0, serving-ready g k w s, serving-block g k w s (i .loop-test .taken), serving-sound g k w s, serving-room g k w s)
+    (a .pre .0, serving-ready g k w s, omega (arith, n .successor .ensures, serving-block g k w s (served i)))
+
+wait-requires : tie.Need-wait-requires Inv-loop μ-loop
+wait-requires c κs =
+    let n = c .before .before .before .before .before .before in
+    let i = n .before .before in
+    let h = through-of i in
+    let t = take-of h in
+    let g = start-of t .pre .1 in
+    let k = taken t in
+    let s = i .before .loop .inv .0 in
+    let w = h .through .ensures in
+    (serving-sound g k w s, serving-room g k w s, omega (arith, n .successor .ensures, serving-block g k w s (served i), serving-ready g k w s .loaded .bounds .blocks))
 
 add-i : tie.Need-add-i Inv-loop μ-loop
 add-i c =
-    let i = c .before .before .before .before .before .before .before .before .before in
+    let i = c .before .before .before .before .before .before .before .before .before .before .before in
     let v = visited (through-of i) in
-    omega (arith, v .succs, i .loop-test .taken)
+    omega (arith, v .succs, served i)
 
 loop-less : tie.Need-loop-less Inv-loop μ-loop
 loop-less c = search needs
 
 loop-again : tie.Need-loop-again Inv-loop μ-loop
 loop-again c =
-    let p = c .before .before .before .before in
-    let i = p .before .before .before .before .before in
+    let p = c .before .before in
+    let j = p .before .before .before .before .before in
+    let n = j .before .before in
+    let i = n .before .before in
     let v = visited (through-of i) in
-    let inv = i .before .loop .inv in (
-      serving-more (inv .0) (i .loop-test .taken) (omega (arith, v .small, v .succs)) (omega (arith, v .small, v .succs, v .size)) (p .push .ensures .0),
-      settling-more (inv .0) (inv .1) (i .loop-test .taken) (omega (arith, v .small, v .succs)) (omega (arith, v .small, v .succs, v .size)) (p .push .ensures .1),
+    let inv = i .before .loop .inv in
+    let e = n .successor .ensures in
+    let came = j .join .ensures in (
+      serving-more (inv .0) (served i) (omega (arith, v .small, v .succs)) (omega (arith, v .small, v .succs, v .size)) e (pushed _ came (p .wait .ensures .0)),
+      settling-more (inv .0) (inv .1) (served i) (omega (arith, v .small, v .succs)) (omega (arith, v .small, v .succs, v .size)) e (unsettled-came came (p .wait .ensures .1)),
     )
 
 same-length : tie.Need-same-length Inv-loop μ-loop
@@ -144,9 +140,10 @@ same-length-2 c = search needs
 
 returns-2 : tie.Need-returns-2 Inv-loop μ-loop
 returns-2 c =
-    let h = c .before .before .before in
+    let n = c .before .before in
+    let h = n .before .before in
     let t = take-of h in
-    visited-run (start-of t .pre .1) (taken t) (h .through .ensures) (c .before .loop .inv .0) (c .before .loop .inv .1) (c .loop-test .left)
+    visited-run (start-of t .pre .1) (taken t) (h .through .ensures) (c .before .loop .inv .0) (c .before .loop .inv .1) (omega (arith, c .loop-test .left, n .succ-total .ensures))
 
 pub visit-spec : {M : Type 1} → statement M
 visit-spec =
@@ -161,19 +158,11 @@ visit-spec =
     returns
     element-write-settled
     through-requires
-    mul-at
-    add-at
-    add-total
-    mul-total
-    slice-read-total
-    cast-total
+    succ-total-requires
     loop-holds
-    add-s
-    add-s-2
-    mul-s
-    slice-read-s
-    cast-s
-    push-requires
+    successor-requires
+    join-requires
+    wait-requires
     add-i
     loop-less
     loop-again

@@ -33,8 +33,14 @@ turn-of c = c .before .before
 abbrev loop-of : tie.After-read-line Inv-loop μ-loop → tie.At-loop Inv-loop μ-loop
 loop-of c = turn-of c .before
 
-abbrev end-of : tie.After-slice-known6 Inv-loop μ-loop → tie.After-loop Inv-loop μ-loop
-end-of c = c .before .before .before
+abbrev blocks-at : tie.After-struct-known2 Inv-loop μ-loop → tie.After-blocks2 Inv-loop μ-loop
+blocks-at c = c .before
+
+abbrev progress-at : tie.After-struct-known2 Inv-loop μ-loop → tie.After-progress Inv-loop μ-loop
+progress-at c = blocks-at c .before .before .before
+
+abbrev end-of : tie.After-struct-known2 Inv-loop μ-loop → tie.After-loop Inv-loop μ-loop
+end-of c = progress-at c .before .before
 
 -- what was clear before the first line
 some-text : (c : tie.After-slice-known2 Inv-loop μ-loop) → no-text (start-of c .args .sheet .now) ≡ false
@@ -118,14 +124,11 @@ loop-again c =
     let r = c .before .before .before .before .before in
     line-good (loop-of r .loop .inv) (turn-of r .loop-test .taken) (told .0 .0) (rw (told .1) at (r .read-line .ensures))
 
-slice-read-if2 : tie.Need-slice-read-if2 Inv-loop μ-loop
-slice-read-if2 c = omega (arith, size (c .before .before))
+progress-requires : tie.Need-progress-requires Inv-loop μ-loop
+progress-requires c κs = size (c .before .before)
 
-slice-read-if2-2 : tie.Need-slice-read-if2-2 Inv-loop μ-loop
-slice-read-if2-2 c = omega (arith, size (c .before .before .before))
-
-slice-read-if2-3 : tie.Need-slice-read-if2-3 Inv-loop μ-loop
-slice-read-if2-3 c = omega (arith, size (end-of c .before))
+blocks-requires : tie.Need-blocks-requires Inv-loop μ-loop
+blocks-requires c κs = size (c .before .before .before .before .before)
 
 same-length-2 : tie.Need-same-length-2 Inv-loop μ-loop
 same-length-2 c = kept (end-of (c .before) .before)
@@ -133,7 +136,7 @@ same-length-2 c = kept (end-of (c .before) .before)
 returns-3 : tie.Need-returns-3 Inv-loop μ-loop
 returns-3 c =
     let e = end-of (c .before) in
-    load-from _ (started (e .before .before)) (too-few (e .before .loop .inv) (e .loop-test .left) (c .if2 .taken))
+    load-from _ (started (e .before .before)) (too-few (e .before .loop .inv) (e .loop-test .left) (progress-at (c .before) .progress .ensures) (blocks-at (c .before) .blocks2 .ensures) (c .if2 .taken))
 
 same-length-3 : tie.Need-same-length-3 Inv-loop μ-loop
 same-length-3 c = kept (end-of (c .before) .before)
@@ -141,7 +144,7 @@ same-length-3 c = kept (end-of (c .before) .before)
 returns-4 : tie.Need-returns-4 Inv-loop μ-loop
 returns-4 c =
     let e = end-of (c .before) in
-    load-from _ (started (e .before .before)) (all-read (e .before .loop .inv) (e .loop-test .left) (c .if2 .left))
+    load-from _ (started (e .before .before)) (all-read (e .before .loop .inv) (e .loop-test .left) (progress-at (c .before) .progress .ensures) (blocks-at (c .before) .blocks2 .ensures) (c .if2 .left))
 
 pub load-spec : {M : Type 1} → statement M
 load-spec =
@@ -163,9 +166,8 @@ load-spec =
     add-line
     loop-less
     loop-again
-    slice-read-if2
-    slice-read-if2-2
-    slice-read-if2-3
+    progress-requires
+    blocks-requires
     same-length-2
     returns-3
     same-length-3

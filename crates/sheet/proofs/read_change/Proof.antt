@@ -9,8 +9,8 @@ use Rattle.paper.specs.Refusals.{change-of}
 use Rattle.layout.specs.Layout.{slots-word, typed-base, typed-words}
 use Rattle.fields.specs.Fields.{line-end, fields-behind}
 use Rattle.records.specs.Records.{change-line, told, InPlace, ChangeWithin}
-use Rattle.steps.specs.Actions.{step-of}
-use Rattle.sheet.specs.Loaded.{so-far}
+use Rattle.loaded.specs.Actions.{step-of}
+use Rattle.loaded.specs.Loaded.{so-far}
 use Rattle.sheet.proofs.LawsProgress.{Ready, step-ready, size-of, step-placed, within-by, so-far-counted, so-far-typed}
 use Rattle.sheet.proofs.LawsJudged.{line-refused, line-accepted, change-clear}
 use Rattle.sheet.proofs.LawsActions.{change-fits}
@@ -18,10 +18,10 @@ use borrow.Author.Needs.{needs}
 use Rattle.sheet.proofs.read_change.Statement.{statement}
 use Rattle.sheet.proofs.read_change.Tie as tie
 
-abbrev counts-at : tie.After-change-line → tie.After-counts
+abbrev counts-at : tie.After-change-line → tie.After-counts-of
 counts-at c = c .before .before .before
 
-abbrev place-of : tie.After-counts → tie.After-step-place
+abbrev place-of : tie.After-counts-of → tie.After-step-place
 place-of c = c .before .before
 
 abbrev start-of : tie.After-step-place → tie.Start
@@ -39,16 +39,16 @@ unfolding region
 lined c =
     let k = place-of (counts-at c) in
     let p = start-of k .pre .1 in
-    c .change-line .ensures .0 (so-far _) (step-placed _ p _ (k .step-place .ensures)) (so-far-counted _ p _ (counts-at c .counts .ensures)) (so-far-typed _ p)
+    c .change-line .ensures .0 (so-far _) (step-placed _ p _ (k .step-place .ensures)) (so-far-counted _ p _ (counts-at c .counts-of .ensures)) (so-far-typed _ p)
 
 -- a line that passes is in place, and its slot is a slot
 clear : (c : tie.After-line2) → let n = counts-at (line-of c) in let k = place-of n in let v = c .line2 .given .0 in
     InPlace (start-of k .args .sheet .now) (k .step-place .result) (v .1 .1 .1 .1 .0)
-    × ChangeWithin (n .counts .result .slots) (v .0) (v .1 .0) (v .1 .1 .0) (v .1 .1 .1 .0)
+    × ChangeWithin (n .counts-of .result .slots) (v .0) (v .1 .0) (v .1 .1 .0) (v .1 .1 .1 .0)
 clear c = change-clear (line-of c .change-line .ensures .1) (c .line2 .given .1)
 
 slot-below : (c : tie.After-line2) → c .line2 .given .0 .1 .0 < getD (start-of (place-of (counts-at (line-of c))) .args .words .now) slots-word 0
-slot-below c = rw (counts-at (line-of c) .counts .ensures) at (clear c .1 .slot-below)
+slot-below c = rw (counts-at (line-of c) .counts-of .ensures) at (clear c .1 .slot-below)
 
 ready : (c : tie.After-line2) → Ready (start-of (place-of (counts-at (line-of c))) .args .words .now)
 ready c = let k = place-of (counts-at (line-of c)) in step-ready (start-of k .pre .1) (k .step-place .ensures) (clear c .0)
@@ -56,8 +56,8 @@ ready c = let k = place-of (counts-at (line-of c)) in step-ready (start-of k .pr
 step-place-requires : tie.Need-step-place-requires
 step-place-requires c κs = size-of _ (c .before .before .before .pre .1)
 
-counts-requires : tie.Need-counts-requires
-counts-requires c κs = size-of _ (start-of (c .before) .pre .1)
+counts-of-requires : tie.Need-counts-of-requires
+counts-of-requires c κs = size-of _ (start-of (c .before) .pre .1)
 
 sub-change-line : tie.Need-sub-change-line
 sub-change-line c = search needs
@@ -74,7 +74,7 @@ change-line-requires c κs =
     let k = c .before .before in
     let s = start-of (place-of k) in
     let typed = length-region typed-base typed-words (s .args .words .now) (omega (arith, size-of _ (s .pre .1))) in
-    (s .pre .0, typed, within-by _ _ (k .counts .ensures) (s .pre .1))
+    (s .pre .0, typed, within-by _ _ (k .counts-of .ensures) (s .pre .1))
 
 enum-known-line : tie.Need-enum-known-line
 enum-known-line c = search needs
@@ -120,7 +120,7 @@ read-change-spec =
     tie.close
     (tie.spec
     step-place-requires
-    counts-requires
+    counts-of-requires
     sub-change-line
     part-change-line-start
     part-change-line-end

@@ -8,8 +8,8 @@ use Rattle.paper.specs.Refusals.{safepoint-of}
 use Rattle.layout.specs.Layout.{slots-word}
 use Rattle.fields.specs.Fields.{line-end, fields-behind}
 use Rattle.records.specs.Records.{safepoint-line, told, InPlace, SafepointWithin}
-use Rattle.steps.specs.Actions.{step-of}
-use Rattle.sheet.specs.Loaded.{so-far}
+use Rattle.loaded.specs.Actions.{step-of}
+use Rattle.loaded.specs.Loaded.{so-far}
 use Rattle.sheet.proofs.LawsProgress.{Ready, step-ready, size-of, step-placed, within-by, so-far-counted}
 use Rattle.sheet.proofs.LawsJudged.{line-refused, line-accepted, safepoint-clear}
 use Rattle.sheet.proofs.LawsActions.{safepoint-fits}
@@ -34,15 +34,15 @@ lined : (c : tie.After-safepoint-line) → let s = start-of (place-of c) .args i
 lined c =
     let k = place-of c in
     let p = start-of k .pre .1 in
-    c .safepoint-line .ensures .0 (so-far _) (step-placed _ p _ (k .step-place .ensures)) (so-far-counted _ p _ (c .before .counts .ensures))
+    c .safepoint-line .ensures .0 (so-far _) (step-placed _ p _ (k .step-place .ensures)) (so-far-counted _ p _ (c .before .counts-of .ensures))
 
 -- a line that passes is in place, and its mask has bits of slots alone
 clear : (c : tie.After-line2) → let t = line-of c in let k = place-of t in let v = c .line2 .given .0 in
-    InPlace (start-of k .args .sheet .now) (k .step-place .result) (v .1 .1 .0) × SafepointWithin (t .before .counts .result .slots) (v .0) (v .1 .0)
+    InPlace (start-of k .args .sheet .now) (k .step-place .result) (v .1 .1 .0) × SafepointWithin (t .before .counts-of .result .slots) (v .0) (v .1 .0)
 clear c = safepoint-clear (line-of c .safepoint-line .ensures .1) (c .line2 .given .1)
 
 mask-below : (c : tie.After-line2) → c .line2 .given .0 .1 .0 < 2 ^ getD (start-of (place-of (line-of c)) .args .words .now) slots-word 0
-mask-below c = rw (line-of c .before .counts .ensures) at (clear c .1 .mask-below)
+mask-below c = rw (line-of c .before .counts-of .ensures) at (clear c .1 .mask-below)
 
 ready : (c : tie.After-line2) → Ready (start-of (place-of (line-of c)) .args .words .now)
 ready c = let k = place-of (line-of c) in step-ready (start-of k .pre .1) (k .step-place .ensures) (clear c .0)
@@ -50,11 +50,11 @@ ready c = let k = place-of (line-of c) in step-ready (start-of k .pre .1) (k .st
 step-place-requires : tie.Need-step-place-requires
 step-place-requires c κs = size-of _ (c .before .before .before .pre .1)
 
-counts-requires : tie.Need-counts-requires
-counts-requires c κs = size-of _ (start-of (c .before) .pre .1)
+counts-of-requires : tie.Need-counts-of-requires
+counts-of-requires c κs = size-of _ (start-of (c .before) .pre .1)
 
 safepoint-line-requires : tie.Need-safepoint-line-requires
-safepoint-line-requires c κs = let s = start-of (c .before .before) in (s .pre .0, within-by _ _ (c .counts .ensures) (s .pre .1))
+safepoint-line-requires c κs = let s = start-of (c .before .before) in (s .pre .0, within-by _ _ (c .counts-of .ensures) (s .pre .1))
 
 enum-known-line : tie.Need-enum-known-line
 enum-known-line c = search needs
@@ -97,7 +97,7 @@ read-safepoint-spec =
     tie.close
     (tie.spec
     step-place-requires
-    counts-requires
+    counts-of-requires
     safepoint-line-requires
     enum-known-line
     enum-known-line-2

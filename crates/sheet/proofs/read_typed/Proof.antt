@@ -4,70 +4,63 @@ use mathlib.Core.Path.{_≡_, refl, ap}
 use mathlib.Core.Bool.{false, not, _||_}
 use Prim.Native.Nat.{_<_}
 use native.Mathlib.Omega.{arith}
-use borrow.Author.Tests.{not-false, eqb-true, eqb-false}
 use lib.Dec.{eqb}
 use lib.ListN.{getD}
-use Rattle.lists.specs.Split.{or-left, or-right}
 use Rattle.paper.specs.Refusals.{typed-of}
-use Rattle.layout.specs.Layout.{vregs-word, opened-word, begun-word, least-word}
+use Rattle.layout.specs.Layout.{vregs-word}
 use Rattle.fields.specs.Fields.{line-end, fields-behind}
 use Rattle.records.specs.Records.{typed-line, told, InPlace, TypedWithin}
 use Rattle.records.specs.declared.Place.{Place}
-use Rattle.sheet.specs.Loaded.{so-far}
-use Rattle.sheet.proofs.LawsProgress.{size-of, begun-of, typed-placed, within-by, so-far-counted, so-far-least}
+use Rattle.loaded.specs.declared.Reached.{Reached}
+use Rattle.loaded.specs.Loaded.{so-far}
+use Rattle.sheet.proofs.LawsProgress.{size-of, typed-ready, typed-placed, within-by, so-far-counted, so-far-least}
 use Rattle.sheet.proofs.LawsJudged.{line-refused, line-accepted, typed-clear}
 use borrow.Author.Needs.{needs}
 use Rattle.sheet.proofs.read_typed.Statement.{statement}
 use Rattle.sheet.proofs.read_typed.Tie as tie
 
-abbrev counts-at : tie.After-typed-line → tie.After-counts
-counts-at c = c .before .before
+abbrev counts-at : tie.After-typed-line → tie.After-counts-of
+counts-at c = c .before
+
+abbrev progress-at : tie.After-typed-line → tie.After-progress
+progress-at c = counts-at c .before .before .before .before
 
 abbrev start-of : tie.After-typed-line → tie.Start
-start-of c = counts-at c .before .before .before .before .before .before
+start-of c = progress-at c .before .before .before .before
 
 abbrev line-of : tie.After-line2 → tie.After-typed-line
 line-of c = c .before .before
 
-abbrev stored-of : tie.After-slice-known5 → tie.After-add-typed
+abbrev stored-of : tie.After-slice-known2 → tie.After-add-typed
 stored-of c = c .before .before
 
 lined : (c : tie.After-typed-line) → let s = start-of c .args in
     typed-line (c .typed-line .result) ≡ told (so-far (s .words .now)) (line-end (s .sheet .now) (s .at)) (typed-of (fields-behind (s .sheet .now) (s .at)))
 lined c =
     let p = start-of c .pre .1 in
-    c .typed-line .ensures .0 (so-far _) (typed-placed _ p) (so-far-counted _ p _ (counts-at c .counts .ensures)) (so-far-least _ p)
+    c .typed-line .ensures .0 (so-far _) (typed-placed _ p (progress-at c .progress .ensures)) (so-far-counted _ p _ (counts-at c .counts-of .ensures)) (so-far-least _ p (progress-at c .progress .ensures))
 
 -- a line that passes is in place, its name below `vregs` and not below the least
 abbrev place-of : tie.After-typed-line → Place
 place-of c =
-    let words = start-of c .args .words .now in
-    record { misplaced = eqb (getD words begun-word 0) 0 || not (eqb (getD words opened-word 0) 0); surplus = false }
+    let r = progress-at c .progress .result in
+    record { misplaced = not (r .begun) || not (eqb (r .opened) 0); surplus = false }
 
 clear : (c : tie.After-line2) → let s = start-of (line-of c) .args in let v = c .line2 .given .0 in
-    InPlace (s .sheet .now) (place-of (line-of c)) (v .1 .0) × TypedWithin (counts-at (line-of c) .counts .result .vregs) (getD (s .words .now) least-word 0) (v .0)
+    InPlace (s .sheet .now) (place-of (line-of c)) (v .1 .0) × TypedWithin (counts-at (line-of c) .counts-of .result .vregs) (progress-at (line-of c) .progress .result .least) (v .0)
 clear c = typed-clear (line-of c .typed-line .ensures .1) (c .line2 .given .1)
 
 below : (c : tie.After-line2) → c .line2 .given .0 .0 < getD (start-of (line-of c) .args .words .now) vregs-word 0
-below c = rw (counts-at (line-of c) .counts .ensures) at (clear c .1 .name-below)
+below c = rw (counts-at (line-of c) .counts-of .ensures) at (clear c .1 .name-below)
 
-slice-read-t10 : tie.Need-slice-read-t10
-slice-read-t10 c = omega (arith, size-of _ (c .before .before .before .pre .1))
+progress-requires : tie.Need-progress-requires
+progress-requires c κs = size-of _ (c .before .before .before .pre .1)
 
-slice-read-t13 : tie.Need-slice-read-t13
-slice-read-t13 c = omega (arith, size-of _ (c .before .before .before .before .pre .1))
-
-counts-requires : tie.Need-counts-requires
-counts-requires c κs = size-of _ (c .before .before .before .before .before .pre .1)
-
-slice-read-typed-line : tie.Need-slice-read-typed-line
-slice-read-typed-line c = omega (arith, size-of _ (c .before .before .before .before .before .before .before .pre .1))
-
-cast-typed-line : tie.Need-cast-typed-line
-cast-typed-line c = omega (arith, c .slice-known4 .given least-word)
+counts-of-requires : tie.Need-counts-of-requires
+counts-of-requires c κs = size-of _ (c .before .before .before .before .before .before .before .pre .1)
 
 typed-line-requires : tie.Need-typed-line-requires
-typed-line-requires c κs = c .before .before .before .before .before .before .before .pre .0
+typed-line-requires c κs = c .before .before .before .before .before .before .before .before .pre .0
 
 enum-known-line : tie.Need-enum-known-line
 enum-known-line c = search needs
@@ -76,21 +69,18 @@ enum-known-line-2 : tie.Need-enum-known-line-2
 enum-known-line-2 c = search needs
 
 cast-add-typed : tie.Need-cast-add-typed
-cast-add-typed c = let g = c .before .before in omega (arith, below g, within-by _ _ (counts-at (line-of g) .counts .ensures) (start-of (line-of g) .pre .1) .vregs)
+cast-add-typed c = let g = c .before .before in omega (arith, below g, within-by _ _ (counts-at (line-of g) .counts-of .ensures) (start-of (line-of g) .pre .1) .vregs)
 
 add-typed-requires : tie.Need-add-typed-requires
 add-typed-requires c κs =
     let g = c .before .before in
     let s = start-of (line-of g) in
-    let z = clear g .0 .placed in (
-      begun-of _ (s .pre .1) (eqb-false _ _ (or-left _ _ z)),
-      eqb-true _ _ (not-false _ (or-right (eqb (getD (s .args .words .now) begun-word 0) 0) _ z)),
-      below g,
-      clear g .1 .name-ascends,
-    )
+    let e = progress-at (line-of g) .progress .ensures in
+    let q = typed-ready _ (s .pre .1) e (clear g .0 .placed) in
+    (q .0, q .1, below g, omega (arith, ap (λ (r : Reached). r .least) e, clear g .1 .name-ascends))
 
-add-t25 : tie.Need-add-t25
-add-t25 c =
+add-t22 : tie.Need-add-t22
+add-t22 c =
     let g = stored-of c .before .before .before in
     omega (arith, clear g .0 .inside, start-of (line-of g) .pre .0 .size)
 
@@ -117,17 +107,14 @@ pub read-typed-spec : {M : Type 1} → statement M
 read-typed-spec =
     tie.close
     (tie.spec
-    slice-read-t10
-    slice-read-t13
-    counts-requires
-    slice-read-typed-line
-    cast-typed-line
+    progress-requires
+    counts-of-requires
     typed-line-requires
     enum-known-line
     enum-known-line-2
     cast-add-typed
     add-typed-requires
-    add-t25
+    add-t22
     same-length
     returns
     same-length-2

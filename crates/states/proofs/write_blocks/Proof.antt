@@ -5,7 +5,7 @@ use native.Mathlib.Omega.{arith}
 use lib.ListN.{length, getD}
 use Rattle.layout.specs.Layout.{blocks-word}
 use Rattle.lists.specs.Sets.{Wrote}
-use Rattle.sheet.specs.Loaded.{sheet-of}
+use Rattle.loaded.specs.Loaded.{sheet-of}
 use Rattle.paper.specs.Report.{by-block}
 use Rattle.states.specs.EntryStates.{block-text}
 use Rattle.states.specs.Stated.{longest-line}
@@ -21,11 +21,8 @@ Inv-loop rule words out₀ blocks next₀ b₀ out next b =
 abbrev μ-loop : tie.MeasureT-loop
 μ-loop rule words out₀ blocks next₀ b₀ out next b = blocks - b
 
-shared-slice-read-blocks : tie.Need-shared-slice-read-blocks Inv-loop μ-loop
-shared-slice-read-blocks c = omega (arith, c .before .before .before .pre .0 .loaded .bounds)
-
-cast-blocks : tie.Need-cast-blocks Inv-loop μ-loop
-cast-blocks c = omega (arith, c .before .before .before .pre .0 .loaded .bounds)
+blocks-requires : tie.Need-blocks-requires Inv-loop μ-loop
+blocks-requires c κs = c .before .before .pre .0 .loaded .bounds .size
 
 loop-holds : tie.Need-loop-holds Inv-loop μ-loop
 loop-holds c = (omega arith, omega arith, refl, blocks-none _ _ _)
@@ -60,8 +57,7 @@ write-blocks-spec =
     (tie.spec
     Inv-loop
     μ-loop
-    shared-slice-read-blocks
-    cast-blocks
+    blocks-requires
     loop-holds
     write-block-requires
     add-b

@@ -8,12 +8,12 @@ use native.Mathlib.Omega.{arith}
 use borrow.Author.Needs.{needs}
 use types.Run.{OneOf, miss}
 use denote.Enum.Declared.{tagOf}
-use Rattle.steps.specs.declared.Action.the-variants.{Spill, Reload, Move, Change, Operation, Safepoint}
-use Rattle.steps.specs.declared.Action.{Action}
+use Rattle.loaded.specs.declared.Action.the-variants.{Spill, Reload, Move, Change, Operation, Safepoint}
+use Rattle.loaded.specs.declared.Action.{Action}
 use Rattle.steps.specs.Faults.{fault-of}
-use Rattle.steps.specs.Actions.{step-of}
+use Rattle.loaded.specs.Actions.{step-of}
 use Rattle.steps.proofs.LawsChecks.{change-means-in, uses-mean, slots-mean}
-use Rattle.steps.proofs.Action.{the-type}
+use Rattle.loaded.proofs.Action.{the-type}
 use Rattle.steps.proofs.check.Statement.{statement}
 use Rattle.paper.specs.Steps as paper
 use Rattle.steps.proofs.check.Tie as tie

@@ -8,7 +8,7 @@ use native.Mathlib.Omega.{arith}
 use borrow.Author.Needs.{needs}
 use Rattle.paper.specs.Text.{Name}
 use Rattle.cells.specs.States.{state-of}
-use Rattle.steps.specs.Actions.{steps-at, InRange, Runnable, HonestSteps}
+use Rattle.loaded.specs.Actions.{steps-at, InRange, Runnable, HonestSteps}
 use Rattle.steps.proofs.LawsEffects.{no-step, next-step}
 use Rattle.steps.proofs.effects.Statement.{statement}
 use Rattle.paper.specs.Steps as paper

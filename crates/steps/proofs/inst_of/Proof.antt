@@ -1,7 +1,7 @@
 -- `inst_of` meets its contract: one case for each kind of step.
 use borrow.Author.Needs.{needs}
 use Rattle.paper.specs.Report.{inst-of}
-use Rattle.steps.specs.Actions.{step-of}
+use Rattle.loaded.specs.Actions.{step-of}
 use Rattle.steps.proofs.inst_of.Statement.{statement}
 use Rattle.steps.proofs.inst_of.Tie as tie
 

@@ -8,12 +8,12 @@ use borrow.Author.Needs.{needs}
 use types.Run.{OneOf, miss}
 use denote.Enum.Declared.{tagOf}
 use Rattle.paper.specs.Report.{missing-names}
-use Rattle.steps.specs.declared.Action.the-variants.{Spill, Reload, Move, Change, Operation, Safepoint}
-use Rattle.steps.specs.declared.Action.{Action}
+use Rattle.loaded.specs.declared.Action.the-variants.{Spill, Reload, Move, Change, Operation, Safepoint}
+use Rattle.loaded.specs.declared.Action.{Action}
 use Rattle.steps.specs.Faults.{some-in}
-use Rattle.steps.specs.Actions.{step-of}
-use Rattle.steps.proofs.LawsPacking.{missing-first, missing-second}
-use Rattle.steps.proofs.Action.{the-type}
+use Rattle.loaded.specs.Actions.{step-of}
+use Rattle.steps.proofs.LawsMissing.{missing-first, missing-second}
+use Rattle.loaded.proofs.Action.{the-type}
 use Rattle.steps.proofs.missing.Statement.{statement}
 use Rattle.steps.proofs.missing.Tie as tie
 

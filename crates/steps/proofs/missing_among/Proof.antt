@@ -5,8 +5,8 @@ use native.Mathlib.Omega.{arith}
 use borrow.Author.Needs.{needs}
 use Rattle.paper.specs.Report.{unallocated}
 use Rattle.steps.specs.Faults.{some-in}
-use Rattle.steps.specs.Actions.{operands}
-use Rattle.steps.proofs.LawsPacking.{none-missing, missing-here, missing-later}
+use Rattle.loaded.specs.Actions.{operands}
+use Rattle.steps.proofs.LawsMissing.{none-missing, missing-here, missing-later}
 use Rattle.steps.proofs.missing_among.Statement.{statement}
 use Rattle.steps.proofs.missing_among.Tie as tie
 

@@ -4,7 +4,7 @@ use mathlib.Core.List.{List, [], _∷_}
 use mathlib.Core.Path.{_∙_}
 use native.Mathlib.Omega.{arith}
 use borrow.Author.Needs.{needs}
-use Rattle.steps.specs.Actions.{step-of}
+use Rattle.loaded.specs.Actions.{step-of}
 use Rattle.steps.proofs.LawsEffects.{spill-effect, reload-effect, move-effect, safepoint-effect, operation-effect}
 use Rattle.steps.proofs.update.Statement.{statement}
 use Rattle.steps.proofs.update.Tie as tie

@@ -1,0 +1,4 @@
+pub mod LawsPacking
+pub mod LawsHeader
+pub mod LawsBody
+pub mod LawsOperands

@@ -1,0 +1,9 @@
+pub mod Actions
+pub mod Laws
+pub mod Same
+pub mod Loaded
+pub mod Blocks
+pub mod Allocated
+pub mod Sheets
+pub mod Filling
+pub mod Typed

@@ -1,0 +1,2 @@
+pub mod LawsFilled
+pub mod LawsThrough

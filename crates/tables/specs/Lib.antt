@@ -1,0 +1,4 @@
+pub mod Held
+pub mod Table
+pub mod Allowed
+pub mod Laws
