@@ -2,14 +2,15 @@
 -- that both meet a promise on the same input are equal, buffers included. Demand 3 for `check`, for `itanropen_check` and for the
 -- text that `answer_text` leaves and `regcheck` writes: accepted under the house rule exactly when the sheet is read and the
 -- acceptance sentence holds of it; then its two programs read equal values at every use. And for every sheet that is read, accepted
--- or not, the report is of states that are the meet over all walks.
+-- or not, the report is of states that are the meet over all walks, and it is well formed.
 use mathlib.Core.Path.{_≡_, refl, sym, ap, _∙_, subst}
-use mathlib.Core.Logic.{_↔_}
+use mathlib.Core.Logic.{_↔_, _⊎_, inl, inr, ⊎-map, ⊎-elim}
 use mathlib.Core.Bool.{Bool, true, false}
 use Prim.Native.Nat.{ℕ, _≤_}
 use native.Mathlib.Omega.{arith}
 use mathlib.Core.List.{List, [], _∷_}
-use lib.ListN.{length, take}
+use lib.ListN.{length, take, drop}
+use lib.Seq.{take-at}
 use Rattle.lists.specs.Split.{by-equal}
 use Rattle.paper.specs.Text.{Bytes}
 use Rattle.paper.specs.Sheet.{Sheet}
@@ -18,6 +19,7 @@ use Rattle.paper.specs.Runs.{visit-bound, EndsAfter}
 use Rattle.paper.specs.Refusals.{Reading, loaded, refused, read}
 use Rattle.paper.specs.Report.{Line, find-errors, first-list, missing-allocations, faults, report-text}
 use Rattle.paper.specs.Walks.{Acceptance}
+use Rattle.paper.specs.Comparison.{bad-line}
 use Rattle.paper.specs.Answer.{Said, accepted, faulty, turned-away, said-of, said-after, answer, written, Lent, too-short, laid, answer-of, report-of, Outcome, outcome-of, outcome}
 use Rattle.paper.specs.declared.Rule.{Rule}
 use Rattle.paper.specs.declared.Rule.the-variants.{Old, House}
@@ -25,6 +27,7 @@ use Rattle.paper.specs.declared.Refusal.{Refusal}
 use Rattle.paper.specs.declared.Answer.{Answer}
 use Rattle.paper.specs.declared.Answer.the-variants.{Accepted, Faulty, Refused}
 use Rattle.walks.specs.Theorems.{ReadSheet, read-sheet, Acceptable, AcceptedBytes, acceptable, accepted-bytes, bytes-acceptance}
+use Rattle.compare.specs.Spelled.{report-well-formed}
 use Rattle.checker.specs.Checked.{Checked, TextOutcome, Stated, verdict-of, rule-of, Exported}
 use Rattle.checker.specs.declared.Verdict.{Verdict}
 use Rattle.checker.proofs.Laws.{number-0, number-other}
@@ -172,3 +175,69 @@ check-reported {rule} {sheet} {before} c given =
 pub check-visits : {rule : Rule} {sheet : Bytes} {before after : Lent} {r : Answer} → Checked rule sheet before after r → ((refusal : Refusal) → ¬ (r ≡ Refused refusal))
     → (S : Sheet) × ((read sheet ≡ loaded S) × ((k : ℕ) × (EndsAfter rule S k × (k ≤ visit-bound rule S))))
 check-visits {rule} c given = let p = check-reported c given in (p .sheet, (p .is-read, p .known .visits rule))
+
+-- Document 02, A1: whatever is answered with a report, under either rule, leaves a well-formed report, in its first bytes as many as
+-- the answer says.
+
+text-well-formed : (rule : Rule) (sheet text : Bytes) → (answer rule sheet ≡ accepted text) ⊎ (answer rule sheet ≡ faulty text) → bad-line text ≡ 0
+unfolding answer said-after written
+text-well-formed rule sheet text e = at (read sheet) refl
+  where
+    at : (o : Reading) → read sheet ≡ o → bad-line text ≡ 0
+    at (loaded S) h =
+        let t : written (answer rule sheet) ≡ text = ⊎-elim (λ f. ap written f) (λ f. ap written f) e in
+        subst (λ (t : Bytes). bad-line t ≡ 0) t (report-well-formed rule sheet S h)
+    at (refused refusal) h =
+        ⊎-elim (λ f. let p = rw h at f in let z : _≡_ {A = ℕ} 0 1 = cc in absurd (omega arith))
+        (λ f. let p = rw h at f in let z : _≡_ {A = ℕ} 0 1 = cc in absurd (omega arith)) e
+
+outcome-well-formed : (rule : Rule) (sheet : Bytes) (before : Lent) (n : ℕ)
+    → ((outcome rule sheet before) .answer ≡ Accepted n) ⊎ ((outcome rule sheet before) .answer ≡ Faulty n)
+    → bad-line (take n ((outcome rule sheet before) .lent .report)) ≡ 0
+unfolding outcome outcome-of answer-of report-of laid
+outcome-well-formed rule sheet before n e = at (too-short report-size before) refl (answer rule sheet) refl
+  where
+    told : (o : Outcome) → outcome rule sheet before ≡ o → (o .answer ≡ Accepted n) ⊎ (o .answer ≡ Faulty n)
+    told o f = ⊎-map (λ h. sym (ap (λ (x : Outcome). x .answer) f) ∙ h) (λ h. sym (ap (λ (x : Outcome). x .answer) f) ∙ h) e
+
+    at : (b : Bool) → too-short report-size before ≡ b → (said : Said) → answer rule sheet ≡ said
+        → bad-line (take n ((outcome rule sheet before) .lent .report)) ≡ 0
+    at true s said t =
+        ⊎-elim (λ h. let z : _≡_ {A = ℕ} 0 1 = cc in absurd (omega arith)) (λ h. let z : _≡_ {A = ℕ} 0 1 = cc in absurd (omega arith))
+        (told (record { answer = Refused (record { number = 1; line = 0 }); lent = before }) (rw s))
+    at false s (accepted text) t =
+        let p = told (outcome-of (accepted text) before) (rw (s, t)) in
+        let k : length text ≡ n = ⊎-elim (λ h. (cc)) (λ h. let z : _≡_ {A = ℕ} 0 1 = cc in absurd (omega arith)) p in
+        rw (s, t, ← k, take-at text (drop (length text) (before .report)) (length text) refl) (text-well-formed rule sheet text (inl t))
+    at false s (faulty text) t =
+        let p = told (outcome-of (faulty text) before) (rw (s, t)) in
+        let k : length text ≡ n = ⊎-elim (λ h. let z : _≡_ {A = ℕ} 0 1 = cc in absurd (omega arith)) (λ h. (cc)) p in
+        rw (s, t, ← k, take-at text (drop (length text) (before .report)) (length text) refl) (text-well-formed rule sheet text (inr t))
+    at false s (turned-away refusal) t =
+        ⊎-elim (λ h. let z : _≡_ {A = ℕ} 0 1 = cc in absurd (omega arith)) (λ h. let z : _≡_ {A = ℕ} 0 1 = cc in absurd (omega arith))
+        (told (outcome-of (turned-away refusal) before) (rw (s, t)))
+
+pub check-well-formed : {rule : Rule} {sheet : Bytes} {before after : Lent} {r : Answer} → Checked rule sheet before after r
+    → (n : ℕ) → (r ≡ Accepted n) ⊎ (r ≡ Faulty n) → bad-line (take n (after .report)) ≡ 0
+check-well-formed {rule} {sheet} {before} c n e =
+    let a = sym (ap (λ (o : Outcome). o .answer) (c .whole)) in
+    subst (λ (l : Lent). bad-line (take n (l .report)) ≡ 0) (sym (ap (λ (o : Outcome). o .lent) (c .whole)))
+    (outcome-well-formed rule sheet before n (⊎-map (λ h. a ∙ h) (λ h. a ∙ h) e))
+
+-- `itanropen_check`, where it does not refuse
+pub export-well-formed : {rule : ℕ} {sheet : Bytes} {before after : Lent} {r : Verdict} → Exported rule sheet before after r → ¬ (r .answer ≡ 2)
+    → bad-line (take (r .length) (after .report)) ≡ 0
+unfolding verdict-of
+export-well-formed {rule} {sheet} {before} {after} {r} c given = at ((outcome (rule-of rule) sheet before) .answer) refl
+  where
+    is : (a : Answer) → (outcome (rule-of rule) sheet before) .answer ≡ a → r ≡ verdict-of a
+    is a t = c .verdict-is ∙ ap verdict-of t
+
+    left : (n : ℕ) → r .length ≡ n → bad-line (take n ((outcome (rule-of rule) sheet before) .lent .report)) ≡ 0
+        → bad-line (take (r .length) (after .report)) ≡ 0
+    left n e w = rw (e, c .lent-is) w
+
+    at : (a : Answer) → (outcome (rule-of rule) sheet before) .answer ≡ a → bad-line (take (r .length) (after .report)) ≡ 0
+    at (Accepted n) t = left n (ap (λ (v : Verdict). v .length) (is (Accepted n) t)) (outcome-well-formed (rule-of rule) sheet before n (inl t))
+    at (Faulty n) t = left n (ap (λ (v : Verdict). v .length) (is (Faulty n) t)) (outcome-well-formed (rule-of rule) sheet before n (inr t))
+    at (Refused refusal) t = absurd (given (ap (λ (v : Verdict). v .answer) (is (Refused refusal) t)))

@@ -31,7 +31,7 @@ use Rattle.compare.specs.declared.Place.{Place}
 use Rattle.compare.specs.declared.Place.the-variants.{At, Bad}
 use Rattle.paper.specs.declared.Compared.{Compared}
 use Rattle.paper.specs.declared.Compared.the-variants.{Malformed}
-use Rattle.compare.proofs.LawsPart.{pieces-none, pieces-some, pieces-feed, pieces-more, not-empty}
+use Rattle.compare.specs.Pieces.{pieces-none, pieces-some, not-empty}
 
 -- what a place tells
 

@@ -1,6 +1,6 @@
 -- Where two texts part, byte by byte, is where their pieces do.
 use mathlib.Core.Path.{_≡_, refl, sym, ap, _∙_}
-use mathlib.Core.Bool.{Bool, true, false, cond, _&&_, true≢false}
+use mathlib.Core.Bool.{cond, true≢false}
 use mathlib.Core.List.{List, [], _∷_}
 use Prim.Native.Nat.{ℕ, suc, _+_, _≤_, _<_}
 use native.Mathlib.Nat.{add-suc, add-zero}
@@ -11,11 +11,12 @@ use lib.Dec.{eqb}
 use lib.ListN.{length, getD, drop, length-drop, drop-of-length-le}
 use lib.Seq.{drop-cons}
 use Rattle.lists.specs.Split.{by-test}
-use Rattle.paper.specs.Text.{Bytes, line-feed, onto-first, parts}
+use Rattle.paper.specs.Text.{Bytes, line-feed, onto-first}
 use Rattle.paper.specs.Refusals.{empty}
 use Rattle.paper.specs.Comparison.{same-text, pieces, same-line, parting}
 use Rattle.paper.specs.declared.Compared.{Compared}
 use Rattle.paper.specs.declared.Compared.the-variants.{Equal, Parts}
+use Rattle.compare.specs.Pieces.{pieces-none, pieces-feed, pieces-more, pieces-some, not-empty}
 
 -- two texts from a place on, inside a line that began at an earlier one
 unfoldable pub scan : (line place at : ℕ) → Bytes → Bytes → Compared
@@ -38,37 +39,6 @@ part-none line place [] [] = refl
 part-none line place [] (m ∷ ms) = refl
 part-none line place (l ∷ ls) [] = refl
 part-none line place (l ∷ ls) (m ∷ ms) = rw (add-zero place)
-
--- a text's pieces: one at least
-
-pub pieces-none : pieces [] ≡ [] ∷ []
-unfolding pieces parts
-pieces-none = refl
-
-pub pieces-feed : (b : ℕ) (bs : Bytes) → eqb b line-feed ≡ true → pieces (b ∷ bs) ≡ [] ∷ pieces bs
-unfolding pieces parts
-pieces-feed b bs e = rw e
-
-pub pieces-more : (b : ℕ) (bs : Bytes) → eqb b line-feed ≡ false → pieces (b ∷ bs) ≡ onto-first b (pieces bs)
-unfolding pieces parts
-pieces-more b bs e = rw e
-
-onto-some : (b : ℕ) (ls : List Bytes) → 0 < length (onto-first b ls)
-unfolding onto-first
-onto-some b [] = omega arith
-onto-some b (l ∷ ls) = omega arith
-
-pub pieces-some : (text : Bytes) → 0 < length (pieces text)
-pieces-some [] = rw pieces-none (omega arith)
-pieces-some (b ∷ bs) =
-    by-test (eqb b line-feed)
-    (λ e. rw (pieces-feed b bs e) (omega arith))
-    λ e. rw (pieces-more b bs e) (onto-some b (pieces bs))
-
-pub not-empty : {A : Type 0} (ls : List A) → 0 < length ls → empty ls ≡ false
-unfolding empty
-not-empty [] h = absurd (omega arith)
-not-empty (l ∷ ls) h = refl
 
 -- one byte more of each
 

@@ -4,4 +4,3 @@ pub mod LawsLine
 pub mod LawsRest
 pub mod LawsText
 pub mod Theorems
-pub mod Spelled

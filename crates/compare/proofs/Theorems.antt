@@ -14,7 +14,8 @@ use Rattle.paper.specs.Refusals.{empty}
 use Rattle.paper.specs.Comparison.{same-text, pieces, same-line, parting, bad-line, refused-or, compared}
 use Rattle.paper.specs.declared.Compared.{Compared}
 use Rattle.paper.specs.declared.Compared.the-variants.{Equal, Parts, Malformed}
-use Rattle.compare.proofs.LawsPart.{scan, scanning-first, pieces-some, not-empty}
+use Rattle.compare.specs.Pieces.{pieces-some, not-empty}
+use Rattle.compare.proofs.LawsPart.{scan, scanning-first}
 
 -- of two texts from a place on
 

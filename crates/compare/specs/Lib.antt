@@ -1,2 +1,4 @@
 pub mod Places
 pub mod Written
+pub mod Pieces
+pub mod Spelled

@@ -1,5 +1,5 @@
 -- Small facts that every file uses: a decision's two sides, membership in a list, an option's two cases, an updated table.
-use mathlib.Core.Path.{_≡_, refl}
+use mathlib.Core.Path.{_≡_, refl, sym, _∙_, ap, subst}
 use mathlib.Core.Logic.{_⊎_, inl, inr}
 use mathlib.Core.List.{List, [], _∷_, _++_}
 use mathlib.Core.Option.{Option, none, some}
@@ -53,3 +53,11 @@ module _ {A : Type 0} (table : ℕ → Option A) (b : ℕ) (a : A) where
   pub update-other : (c : ℕ) → ¬ (c ≡ b) → update table b a c ≡ table c
   unfolding update
   update-other c h = pick-no (ℕ-discrete c b) (some a) (table c) h
+
+  -- what holds of all that is in a table holds behind an update, if it holds of what came
+  pub update-holds : (P : A → Type 0) → P a → ((c : ℕ) (x : A) → table c ≡ some x → P x) → (c : ℕ) (x : A) → update table b a c ≡ some x → P x
+  update-holds P p h c x e = go (ℕ-discrete c b)
+    where
+      go : Dec (c ≡ b) → P x
+      go (yes q) = subst P (some-inj update-same (ap (update table b a) (sym q) ∙ e)) p
+      go (no d) = h c x (sym (update-other c d) ∙ e)

@@ -53,7 +53,7 @@ module _ {P : Cell → Type 0} where
   row-same zero c p = each-nil
   row-same (suc n) c p = each-cons p (row-same n c p)
 
-  unfilled-fits : (rule : Rule) → P (unfilled rule) → (counts : List ℕ) → Fits P (shape-of counts) (unfilled-rows rule counts)
+  pub unfilled-fits : (rule : Rule) → P (unfilled rule) → (counts : List ℕ) → Fits P (shape-of counts) (unfilled-rows rule counts)
   unfolding shape-of unfilled-rows
   unfilled-fits rule p [] = each-nil
   unfilled-fits rule p (n ∷ counts) = each-cons (row-same n (unfilled rule) p) (unfilled-fits rule p counts)
@@ -92,16 +92,16 @@ module _ {P : Cell → Type 0} where
     fits-store : (r i : ℕ) (c : Cell) → P c → (s : State) → Fits P sh s → Fits P sh (store-at r i c s)
     fits-store r i c p s f = each-set (λ row. set row i c) (λ is row. each-set (λ x. c) (λ u x q. p) absent i) [] r f
 
-    fits-put : (l : Location) (c : Cell) → P c → (s : State) → Fits P sh s → Fits P sh (put l c s)
+    pub fits-put : (l : Location) (c : Cell) → P c → (s : State) → Fits P sh s → Fits P sh (put l c s)
     unfolding put
     fits-put (at row place) c p s f = fits-store row place c p s f
     fits-put nowhere c p s f = f
 
-    fits-everywhere : (g : Cell → Cell) → ((c : Cell) → P c → P (g c)) → (s : State) → Fits P sh s → Fits P sh (everywhere g s)
+    pub fits-everywhere : (g : Cell → Cell) → ((c : Cell) → P c → P (g c)) → (s : State) → Fits P sh s → Fits P sh (everywhere g s)
     unfolding everywhere
     fits-everywhere g h s f = each-map (map g) (λ is row. each-map g (λ u. h)) f
 
-    fits-copy : P unknown → ((c : Cell) → P c → P (copied c)) → (into from : Location) (s : State) → Fits P sh s → Fits P sh (copy into from s)
+    pub fits-copy : P unknown → ((c : Cell) → P c → P (copied c)) → (into from : Location) (s : State) → Fits P sh s → Fits P sh (copy into from s)
     unfolding copy copied
     fits-copy p h into from s f = fits-put into (copied (get s from)) (go (fits-get from s f)) s f
       where
@@ -109,7 +109,7 @@ module _ {P : Cell → Type 0} where
         go (inl e) = subst (λ (c : Cell). P (copied c)) (sym e) p
         go (inr q) = h (get s from) q
 
-    fits-collect : (rule : Rule) → ((c : Cell) → P c → P (collected rule c)) → (slots : List ℕ) (s : State) → Fits P sh s → Fits P sh (placed (safepoint-row rule slots) s)
+    pub fits-collect : (rule : Rule) → ((c : Cell) → P c → P (collected rule c)) → (slots : List ℕ) (s : State) → Fits P sh s → Fits P sh (placed (safepoint-row rule slots) s)
     unfolding safepoint-row
     fits-collect rule h slots s f = each-placed (safepoint-row rule slots) (λ r is row. at r is row) f
       where

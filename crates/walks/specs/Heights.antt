@@ -41,6 +41,13 @@ module _ {I A : Type 0} {P : I → A → Type 0} where
   each-map-set f g p q d zero (each-cons {i} {x} e es) = each-cons (q i x e) (each-map f p es)
   each-map-set f g p q d (suc k) (each-cons {i} {x} e es) = each-cons (p i x e) (each-map-set f g p q d k es)
 
+  -- two lists, place by place
+  pub each-both : (m : A → A → A) → ((i : I) (x y : A) → P i x → P i y → P i (m x y)) → {is : List I} {a b : List A} → Each P is a → Each P is b
+      → Each P is (both m a b)
+  unfolding both
+  each-both m h each-nil each-nil = each-nil
+  each-both m h (each-cons {i} {x} p ps) (each-cons {x = y} q qs) = each-cons (h i x y p q) (each-both m h ps qs)
+
   -- an element read with a default is one of the list, or the default
   pub each-getD : {is : List I} {xs : List A} (d : A) (k : ℕ) → Each P is xs → (getD xs k d ≡ d) ⊎ ((i : I) × P i (getD xs k d))
   each-getD d k each-nil = inl refl
@@ -84,11 +91,6 @@ module _ {I A : Type 0} {m : A → A → A} {P : I → A → Type 0} {height : A
       go (yes e) rec = omega (arith, ap height e, rec (λ f. n (cc)))
       go (no f) rec = omega (arith, G .falls i x y p q f, both-under ps qs)
 
-  both-kept : {is : List I} {a b : List A} → Each P is a → Each P is b → Each P is (both m a b)
-  unfolding both
-  both-kept each-nil each-nil = each-nil
-  both-kept (each-cons {i} {x} p ps) (each-cons {x = y} q qs) = each-cons (G .kept i x y p q) (both-kept ps qs)
-
   sum-high : {is : List I} {a : List A} → Each P is a → sum height a ≤ sum top is
   unfolding sum
   sum-high each-nil = omega arith
@@ -100,5 +102,5 @@ module _ {I A : Type 0} {m : A → A → A} {P : I → A → Type 0} {height : A
     same = list-same (G .same);
     high = λ is a. sum-high;
     falls = λ is a b. both-falls;
-    kept = λ is a b. both-kept;
+    kept = λ is a b. each-both m (G .kept);
   }

@@ -28,7 +28,9 @@ pub mod Lines
 pub mod Acceptance
 pub mod Faults
 -- sheets that are read
+pub mod Small
 pub mod Reading
+pub mod Written
 -- computed sheets
 pub mod Computed
 pub mod OldRule

@@ -10,13 +10,18 @@ use native.Mathlib.Decide.{ℕ-discrete}
 use Rattle.paper.specs.Sheet.{Step, Sheet, steps-of, reference-typed}
 use Rattle.paper.specs.Steps.{State, Fault, check, effect}
 use Rattle.paper.specs.Runs.{checked-from}
-use Rattle.paper.specs.Report.{Line, inst-of, line-of, faults-from, block-faults, by-block, find-errors, first-list, missing-allocations, faults}
+use Rattle.paper.specs.Report.{inst-of, line-of, faults-from, block-faults, by-block, find-errors, first-list, missing-allocations, faults}
 use Rattle.paper.specs.Walks.{Passes}
 use Rattle.paper.specs.declared.Rule.the-variants.{House}
 
 -- every block passes from the state it is checked from
 abbrev pub BlocksPass : Sheet → Type 0
 BlocksPass S = (b : ℕ) → b < S .blocks → Passes (reference-typed S) (steps-of S b) (checked-from House S b)
+
+pub first-none : {A : Type 0} (k l : List A) → (first-list k l ≡ []) ↔ ((k ≡ []) × (l ≡ []))
+unfolding first-list
+first-none [] l = (λ e. (refl, e), λ p. p .1)
+first-none (x ∷ k) l = (λ e. absurd (nil≢cons (sym e)), λ p. p .0)
 
 module _ (S : Sheet) where
   lines-pass : (b place : ℕ) (xs : List Step) (s : State) → faults-from House S b place xs s ≡ [] → Passes (reference-typed S) xs s
@@ -54,11 +59,6 @@ module _ (S : Sheet) where
   pass-blocks zero b h = refl
   pass-blocks (suc n) b h =
       rw (pass-lines b 0 (steps-of S b) (checked-from House S b) (h b (omega arith) (omega arith))) (pass-blocks n (suc b) (λ c l u. h c (omega arith) (omega arith)))
-
-  first-none : (k l : List Line) → (first-list k l ≡ []) ↔ ((k ≡ []) × (l ≡ []))
-  unfolding first-list
-  first-none [] l = (λ e. (refl, e), λ p. p .1)
-  first-none (x ∷ k) l = (λ e. absurd (nil≢cons (sym e)), λ p. p .0)
 
   pub no-faults : (faults House S ≡ []) ↔ ((missing-allocations S ≡ []) × BlocksPass S)
   unfolding faults find-errors

@@ -1,6 +1,7 @@
 -- What a sheet that is read is known to obey, from the refusals that were not made: 5 gives an entry and successors below the
--- number of blocks, 8 gives changes of ownership between names of one type, 9 gives at most 1,024 steps; 4 keeps `T` before `B`,
--- so that no later `T` changes a name's type. The reader adds a record at a time, and each keeps it so.
+-- number of blocks, and counts, names, slots and insts of at most five digits, 8 gives changes of ownership between names of one
+-- type, 9 gives at most 1,024 steps; 4 keeps `T` before `B`, so that no later `T` changes a name's type. The reader adds a record at a
+-- time, and each keeps it so.
 use mathlib.Core.Path.{_≡_, refl, sym, _∙_, ap, subst}
 use mathlib.Core.Logic.{_⊎_, inl, inr, ⊎-map}
 use mathlib.Core.Bool.{Bool, true, false, cond, not, Bool·beq, true≢false}
@@ -10,11 +11,11 @@ use Prim.Native.Nat.{ℕ, suc, zero, _+_, _≤_, _<_}
 use native.Mathlib.Omega.{arith}
 use lib.Dec.{eqb, leb, ltb}
 use lib.ListN.{length, getD, length-append}
-use borrow.Author.Tests.{leb-false, not-false}
+use borrow.Author.Tests.{leb-false, ltb-false, not-false}
 use Rattle.paper.specs.Text.{Bytes, lines, fields, Name, real, virtual}
-use Rattle.paper.specs.Sheet.{Step, change, Block, Sheet, no-block, listed, reference-typed}
-use Rattle.paper.specs.Limits.{max-regs, max-slots, max-vregs, max-blocks, max-steps}
-use Rattle.paper.specs.Refusals.{Record, function-record, typed-record, block-record, step-record, record-of, any, empty, out-of-place, beyond-limit, types-differ, step-count, step-too-many, so-far-of, Condition, first-holding, conditions, add-step, add-record, Reading, loaded, refused, Lined, good, bad, judged, read-record, read-line, read-end, carry-on, read-lines, no-text, read}
+use Rattle.paper.specs.Sheet.{Operand, Step, spill, reload, move, change, operation, safepoint, Block, Sheet, no-block, listed, reference-typed, steps-of}
+use Rattle.paper.specs.Limits.{max-regs, max-slots, max-vregs, max-blocks, max-operands, max-inst, max-steps}
+use Rattle.paper.specs.Refusals.{Record, function-record, typed-record, block-record, step-record, record-of, any, empty, out-of-place, name-beyond, reg-beyond, operand-beyond, step-beyond, beyond-limit, types-differ, step-count, step-too-many, so-far-of, Condition, first-holding, conditions, add-step, add-record, Reading, loaded, refused, Lined, good, bad, judged, read-record, read-line, read-end, carry-on, read-lines, no-text, read}
 use Rattle.paper.specs.Report.{Line, faults, report-text}
 use Rattle.paper.specs.Answer.{accepted, said-of, said-after, answer}
 use Rattle.paper.specs.Walks.{In, here, there}
@@ -24,6 +25,7 @@ use Rattle.lists.specs.Split.{or-left, or-right}
 use Rattle.walks.specs.Choices.{in-nil, in-append, some-not-none}
 use Rattle.walks.specs.Bounds.{Closed}
 use Rattle.walks.specs.Honest.{Typed}
+use Rattle.walks.specs.Small.{SmallName, SmallAllocation, SmallOperand, SmallOperands, SmallStep, Limited}
 
 -- the sheet so far
 record Sound (S : Sheet) : Type 0 where
@@ -31,6 +33,8 @@ record Sound (S : Sheet) : Type 0 where
   succs-in : (B : Block) → In B (S .body) → (s : ℕ) → In s (B .succs) → s < S .blocks
   changes : (B : Block) → In B (S .body) → (inst k : ℕ) (from to : Name) → In (change inst k from to) (B .steps) → reference-typed S from ≡ reference-typed S to
   few : step-count (S .body) ≤ max-steps
+  limited : Limited (S .regs) (S .slots) (S .vregs) (S .blocks)
+  small : (B : Block) → In B (S .body) → (x : Step) → In x (B .steps) → SmallStep x
 
 SoundSoFar : Option Sheet → Type 0
 SoundSoFar none = Unit {0}
@@ -114,21 +118,96 @@ step-typed : (S : Sheet) (x : Step) → types-differ S (step-record x) ≡ false
 unfolding types-differ
 step-typed S x e inst k from to p = same-bool (reference-typed S from) (reference-typed S to) (subst (λ (y : Step). types-differ S (step-record y) ≡ false) (sym p) e)
 
+-- refusal 5 on a step, where the counts are within their limits
+module _ (S : Sheet) (L : Limited (S .regs) (S .slots) (S .vregs) (S .blocks)) where
+  small-name : (n : Name) → name-beyond S n ≡ false → SmallName n
+  unfolding name-beyond
+  small-name (real n) e = omega (arith, leb-false (S .regs) n e, L .few-regs)
+  small-name (virtual n) e = omega (arith, leb-false (S .vregs) n e, L .few-vregs)
+
+  small-reg : (r : Option ℕ) → reg-beyond S r ≡ false → SmallAllocation r
+  unfolding reg-beyond
+  small-reg none e = tt
+  small-reg (some r) e = omega (arith, leb-false (S .regs) r e, L .few-regs)
+
+  small-operands : (us : List Operand) → ltb max-operands (length us) ≡ false → any (operand-beyond S) us ≡ false → SmallOperands us
+  unfolding operand-beyond
+  small-operands us few e = record { few = ltb-false max-operands (length us) few; each = each }
+    where
+      each : (u : Operand) → In u us → SmallOperand u
+      each u i =
+          let f = none-of (operand-beyond S) us e u i in
+          record { name = small-name (u .name) (or-left (name-beyond S (u .name)) _ f); reg = small-reg (u .reg) (or-right (name-beyond S (u .name)) _ f) }
+
+  small-step : (x : Step) → step-beyond S x ≡ false → SmallStep x
+  unfolding step-beyond
+  small-step (spill k r) e = tt
+  small-step (reload r k) e = tt
+  small-step (move into from) e = tt
+  small-step (change inst k from to) e =
+      let behind-inst = or-right (ltb max-inst inst) _ e in
+      let names = or-right (leb (S .slots) k) _ behind-inst in (
+        omega (arith, ltb-false max-inst inst (or-left (ltb max-inst inst) _ e)),
+        omega (arith, leb-false (S .slots) k (or-left (leb (S .slots) k) _ behind-inst), L .few-slots),
+        small-name from (or-left (name-beyond S from) _ names),
+        small-name to (or-right (name-beyond S from) _ names),
+      )
+  small-step (operation inst uses defs) e =
+      let behind-inst = or-right (ltb max-inst inst) _ e in
+      let behind-count = or-right (ltb max-operands (length uses)) _ behind-inst in
+      let behind-uses = or-right (any (operand-beyond S) uses) _ behind-count in (
+        omega (arith, ltb-false max-inst inst (or-left (ltb max-inst inst) _ e)),
+        small-operands uses (or-left (ltb max-operands (length uses)) _ behind-inst) (or-left (any (operand-beyond S) uses) _ behind-count),
+        small-operands defs (or-left (ltb max-operands (length defs)) _ behind-uses) (or-right (ltb max-operands (length defs)) _ behind-uses),
+      )
+  small-step (safepoint inst slots) e = (
+    omega (arith, ltb-false max-inst inst (or-left (ltb max-inst inst) _ e)),
+    λ k i. omega (arith, leb-false (S .slots) k (none-of (leb (S .slots)) slots (or-right (ltb max-inst inst) _ e) k i), L .few-slots),
+  )
+
 add-sound : (so-far : Option Sheet) (r : Record) → SoundSoFar so-far → Unrefused so-far r → Sound (add-record (so-far-of so-far) r)
 unfolding SoundSoFar add-record out-of-place beyond-limit step-too-many step-count
 add-sound none (function-record regs slots vregs blocks entry) g u =
-    let vregs-in = or-right (ltb max-slots slots) _ (or-right (ltb max-regs regs) _ (u .in-limits)) in
-    let blocks-in = or-right (ltb max-blocks blocks) _ (or-right (ltb max-vregs vregs) _ vregs-in) in
+    let slots-in = or-right (ltb max-regs regs) _ (u .in-limits) in
+    let vregs-in = or-right (ltb max-slots slots) _ slots-in in
+    let blocks-limit = or-right (ltb max-vregs vregs) _ vregs-in in
+    let blocks-in = or-right (ltb max-blocks blocks) _ blocks-limit in
     let entry-below = or-right (eqb blocks 0) (leb blocks entry) blocks-in in
-    record { entry-in = leb-false blocks entry entry-below; succs-in = λ B i. absurd (in-nil i); changes = λ B i. absurd (in-nil i); few = omega arith }
+    record {
+      entry-in = leb-false blocks entry entry-below;
+      succs-in = λ B i. absurd (in-nil i);
+      changes = λ B i. absurd (in-nil i);
+      few = omega arith;
+      limited = record {
+        few-regs = ltb-false max-regs regs (or-left (ltb max-regs regs) _ (u .in-limits));
+        few-slots = ltb-false max-slots slots (or-left (ltb max-slots slots) _ slots-in);
+        few-vregs = ltb-false max-vregs vregs (or-left (ltb max-vregs vregs) _ vregs-in);
+        few-blocks = ltb-false max-blocks blocks (or-left (ltb max-blocks blocks) _ blocks-limit);
+      };
+      small = λ B i. absurd (in-nil i);
+    }
 add-sound none (typed-record n) g u = absurd (true≢false (u .in-place))
 add-sound none (block-record succs) g u = absurd (true≢false (u .in-place))
 add-sound none (step-record x) g u = absurd (true≢false (u .in-place))
 add-sound (some S) (function-record regs slots vregs blocks entry) g u = absurd (true≢false (u .in-place))
 add-sound (some S) (typed-record n) g u =
     let e : S .body ≡ [] = is-empty (S .body) (not-false (empty (S .body)) (u .in-place)) in
-    record { entry-in = g .entry-in; succs-in = g .succs-in; changes = λ B i. absurd (in-nil (subst (In B) e i)); few = g .few }
-add-sound (some S) (block-record succs) g u = record { entry-in = g .entry-in; succs-in = λ B i. inside B (in-append (S .body) _ i); changes = λ B i. typed B (in-append (S .body) _ i); few = rw (count-append (S .body) succs) (g .few) }
+    record {
+      entry-in = g .entry-in;
+      succs-in = g .succs-in;
+      changes = λ B i. absurd (in-nil (subst (In B) e i));
+      few = g .few;
+      limited = g .limited;
+      small = λ B i. absurd (in-nil (subst (In B) e i));
+    }
+add-sound (some S) (block-record succs) g u = record {
+  entry-in = g .entry-in;
+  succs-in = λ B i. inside B (in-append (S .body) _ i);
+  changes = λ B i. typed B (in-append (S .body) _ i);
+  few = rw (count-append (S .body) succs) (g .few);
+  limited = g .limited;
+  small = λ B i. kept B (in-append (S .body) _ i);
+}
   where
     inside : (B : Block) → In B (S .body) ⊎ In B (record { succs = succs; steps = [] } ∷ []) → (s : ℕ) → In s (B .succs) → s < S .blocks
     inside B (inl i) s j = g .succs-in B i s j
@@ -140,12 +219,35 @@ add-sound (some S) (block-record succs) g u = record { entry-in = g .entry-in; s
     typed B (inl i) inst k from to j = same-types-as S (add-record S (block-record succs)) refl from to (g .changes B i inst k from to j)
     typed B (inr (here e)) inst k from to j = absurd (in-nil (subst (λ (D : Block). In (change inst k from to) (D .steps)) e j))
     typed B (inr (there i)) inst k from to j = absurd (in-nil i)
+
+    kept : (B : Block) → In B (S .body) ⊎ In B (record { succs = succs; steps = [] } ∷ []) → (x : Step) → In x (B .steps) → SmallStep x
+    kept B (inl i) x j = g .small B i x j
+    kept B (inr (here e)) x j = absurd (in-nil (subst (λ (D : Block). In x (D .steps)) e j))
+    kept B (inr (there i)) x j = absurd (in-nil i)
 add-sound (some S) (step-record x) g u =
     let left : step-count (S .body) < max-steps = leb-false max-steps (step-count (S .body)) (u .steps-left) in
-    record { entry-in = g .entry-in; succs-in = inside; changes = typed; few = omega (arith, count-add x (S .body)) }
+    record {
+      entry-in = g .entry-in;
+      succs-in = inside;
+      changes = typed;
+      few = omega (arith, count-add x (S .body));
+      limited = g .limited;
+      small = λ B i. add-step-in x (S .body) B i AllSmall (g .small) one-more;
+    }
   where
     inside : (B : Block) → In B (add-step x (S .body)) → (s : ℕ) → In s (B .succs) → s < S .blocks
     inside B i = add-step-in x (S .body) B i (λ D. (s : ℕ) → In s (D .succs) → s < S .blocks) (g .succs-in) (g .succs-in)
+
+    AllSmall : Block → Type 0
+    AllSmall D = (y : Step) → In y (D .steps) → SmallStep y
+
+    one-more : (D : Block) → In D (S .body) → AllSmall (record { succs = D .succs; steps = D .steps ++ (x ∷ []) })
+    one-more D i y j = go (in-append (D .steps) (x ∷ []) j)
+      where
+        go : In y (D .steps) ⊎ In y (x ∷ []) → SmallStep y
+        go (inl h) = g .small D i y h
+        go (inr (here e)) = subst SmallStep (sym e) (small-step S (g .limited) x (u .in-limits))
+        go (inr (there h)) = absurd (in-nil h)
 
     Kept : Block → Type 0
     Kept D = (inst k : ℕ) (from to : Name) → In (change inst k from to) (D .steps) → reference-typed S from ≡ reference-typed S to
@@ -222,6 +324,16 @@ read-closed bytes S e = record { entry-in = read-sound bytes S e .entry-in; succ
 
 pub read-few : (bytes : Bytes) (S : Sheet) → read bytes ≡ loaded S → step-count (S .body) ≤ max-steps
 read-few bytes S e = read-sound bytes S e .few
+
+pub read-limited : (bytes : Bytes) (S : Sheet) → read bytes ≡ loaded S → Limited (S .regs) (S .slots) (S .vregs) (S .blocks)
+read-limited bytes S e = read-sound bytes S e .limited
+
+pub read-small : (bytes : Bytes) (S : Sheet) → read bytes ≡ loaded S → (b : ℕ) (x : Step) → In x (steps-of S b) → SmallStep x
+read-small bytes S e b x i = go (block-at (S .body) b) i
+  where
+    go : {B : Block} → In B (S .body) ⊎ (B ≡ no-block) → In x (B .steps) → SmallStep x
+    go {B} (inl j) h = read-sound bytes S e .small B j x h
+    go {B} (inr p) h = absurd (in-nil (subst (λ (D : Block). In x (D .steps)) p h))
 
 pub read-typed : (bytes : Bytes) (S : Sheet) → read bytes ≡ loaded S → Typed S
 read-typed bytes S e = record { changes = λ b inst k from to i. go inst k from to (block-at (S .body) b) i }

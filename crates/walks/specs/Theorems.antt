@@ -1,7 +1,8 @@
 -- The theorems of demand 3 and the visit bounds, in document 01's order, over the definitions of `paper`. They hold for any number
--- of blocks, registers, slots and steps; no limit of document 01 is used but by `read-few`. `Closed S` says that the entry and all successors are
--- blocks, `Typed S` that no `C` stands between names that differ in being reference-typed (refusal 8): section 6 has both of every
--- sheet that is read. That real names are never reference-typed stands in the definition of `reference-typed`.
+-- of blocks, registers, slots and steps; no limit of document 01 is used but by `read-few` and `read-reported`. `Closed S` says that the
+-- entry and all successors are blocks, `Typed S` that no `C` stands between names that differ in being reference-typed (refusal 8):
+-- section 6 has both of every sheet that is read. That real names are never reference-typed stands in the definition of
+-- `reference-typed`.
 use mathlib.Core.Path.{_≡_, refl, sym, _∙_, subst}
 use mathlib.Core.Logic.{_↔_}
 use mathlib.Core.Bool.{Bool}
@@ -39,6 +40,8 @@ use Rattle.walks.specs.Acceptance as Accepting
 use Rattle.walks.specs.Faults
 use Rattle.walks.specs.OldRule
 use Rattle.walks.specs.Reading
+use Rattle.walks.specs.Small.{SmallReport}
+use Rattle.walks.specs.Written
 
 -- 1. The house meet is associative, commutative and idempotent, of cells and of states.
 pub house-assoc : (x y z : Cell) → meet House (meet House x y) z ≡ meet House x (meet House y z)
@@ -280,3 +283,8 @@ typed-run-ends S C T = rw (cells-counted S) at (Honest.typed-run-ends S C T)
 -- of an unreached block is its own. `Explained` and `Shown` stand in Faults.antt.
 pub explained : (S : Sheet) → Closed S → (l : Line) → In l (find-errors House S) → Explained S l
 explained = Faults.explained
+
+-- Every number in the report of a sheet that is read, under either rule, has at most five digits, and a register is given wherever
+-- a line names one; the lines are as many as five digits can count (`SmallReport`, Small.antt).
+pub read-reported : (rule : Rule) (bytes : Bytes) (S : Sheet) → read bytes ≡ loaded S → SmallReport (faults rule S)
+read-reported = Written.read-reported

@@ -12,7 +12,7 @@ use lib.ListN.{length, length-append}
 use Rattle.paper.specs.Cells.{pick}
 use Rattle.paper.specs.Runs.{Flow, Run, update, store, push-at, push, spread, visit-at, step-at, step, run}
 use Rattle.paper.specs.Walks.{In, here, there}
-use Rattle.walks.specs.Choices.{update-same, update-other, some-inj, some-not-none, in-append, in-nil, in-left}
+use Rattle.walks.specs.Choices.{update-same, update-other, update-holds, some-inj, some-not-none, in-append, in-nil, in-left}
 use Rattle.walks.specs.Running.{run-still}
 
 -- n blocks; a state that fits has a rank of at most h, and a meet that changes it lowers its rank
@@ -62,11 +62,7 @@ module _ {A : Type 0} {F : Flow A} {n h : ℕ} (R : Ranked F n h) where
       go (no d) rec = rw (update-other t s y m d) (omega (arith, rec (omega arith)))
 
   fit-update : (t : ℕ → Option A) (s : ℕ) (y : A) → R .Fit y → ((b : ℕ) (a : A) → t b ≡ some a → R .Fit a) → (b : ℕ) (a : A) → update t s y b ≡ some a → R .Fit a
-  fit-update t s y fy g b a e = go (ℕ-discrete b s)
-    where
-      go : Dec (b ≡ s) → R .Fit a
-      go (yes p) = subst (R .Fit) (some-inj (update-same t s y) (ap (update t s y) (sym p) ∙ e)) fy
-      go (no d) = g b a (sym (update-other t s y b d) ∙ e)
+  fit-update t s y fy g = update-holds t s y (R .Fit) fy g
 
   module _ {bound : ℕ} where
     -- visits so far and blocks that wait

@@ -1,9 +1,10 @@
--- What a report's text is read as: a report that is written of lines whose numbers have at most five digits is well formed.
+-- What a report's text is read as: a report that is written of lines whose numbers have at most five digits is well formed. So
+-- whatever is answered to a sheet that is read, under either rule, is a well-formed report.
 use mathlib.Core.Path.{_≡_, refl, sym, ap, _∙_}
 use mathlib.Core.Bool.{Bool, true, false, cond, not, _&&_, true≢false}
 use mathlib.Core.List.{List, [], _∷_, _++_, append-assoc}
 use mathlib.Core.Option.{Option, none, some}
-use Prim.Native.Nat.{ℕ, suc, _+_, _<_}
+use Prim.Native.Nat.{ℕ, suc, _+_}
 use native.Mathlib.Nat.{add-zero}
 use native.Mathlib.Omega.{arith}
 use borrow.Author.Tests.{eq-eqb, ne-eqb, not-true}
@@ -12,48 +13,19 @@ use lib.ListN.{length}
 use Rattle.lists.specs.Split.{by-test, and-left, and-right}
 use Rattle.paper.specs.Text.{Bytes, tab, line-feed, parts, onto-first, fields, is-digit, all-digits, number-of, digits, digit-from, Name, real, virtual, name-text, name-of}
 use Rattle.paper.specs.Steps.{Fault, missing-allocation-for-reg, unknown-value-in-reg, incorrect-value-in-reg, unknown-value-in-slot, incorrect-value-in-slot, stack-map-specifies-non-ref-slot, stack-map-specifies-undefined-slot}
-use Rattle.paper.specs.Refusals.{_>>=_, next, ended, any, empty}
-use Rattle.paper.specs.Report.{Line, kind-of, reg-text, slot-text, fault-fields, behind-tabs, line-text, lines-text, rule-text, header-text, report-text, letter-E, letter-R}
+use Rattle.paper.specs.Sheet.{Sheet}
+use Rattle.paper.specs.Refusals.{_>>=_, next, ended, any, empty, loaded, read}
+use Rattle.paper.specs.Report.{Line, kind-of, reg-text, slot-text, fault-fields, behind-tabs, line-text, lines-text, rule-text, header-text, report-text, letter-E, letter-R, faults}
+use Rattle.paper.specs.Answer.{said-of, said-after, answer, written}
 use Rattle.paper.specs.declared.Rule.{Rule}
 use Rattle.paper.specs.declared.Rule.the-variants.{Old, House}
 use Rattle.paper.specs.Comparison.{given, same-text, a-number, a-name, lettered, fits, fault-shape, line-shapes, well-shaped, past, a-rule, count-of, pieces, bad-from, bad-behind, bad-first, bad-line}
 use Rattle.fields.specs.Fields.{ends-field, name-made}
 use Rattle.fields.specs.Spelling.{number, digit-range, number-of-digits, name-of-text}
 use Rattle.fields.specs.Told.{unbroken}
-use Rattle.compare.proofs.LawsPart.{pieces-none, pieces-feed, pieces-more, pieces-some, not-empty}
-
--- numbers of at most five digits
-
-abbrev pub Small : ℕ → Type 0
-Small n = n < 100000
-
-abbrev pub SmallName : Name → Type 0
-SmallName (real n) = Small n
-SmallName (virtual n) = Small n
-
-abbrev pub SmallReg : Option ℕ → Type 0
-SmallReg none = ⊥
-SmallReg (some r) = Small r
-
-abbrev pub SmallFault : Fault → Type 0
-SmallFault (missing-allocation-for-reg n) = SmallName n
-SmallFault (unknown-value-in-reg r) = SmallReg r
-SmallFault (incorrect-value-in-reg r e a) = SmallReg r × SmallName e × SmallName a
-SmallFault (unknown-value-in-slot k e) = Small k × SmallName e
-SmallFault (incorrect-value-in-slot k e a) = Small k × SmallName e × SmallName a
-SmallFault (stack-map-specifies-non-ref-slot k) = Small k
-SmallFault (stack-map-specifies-undefined-slot k) = Small k
-
--- a line's numbers are small, and its register, if it names one, is given
-pub record SmallLine (l : Line) : Type 0 where
-  pub block : Small (l .block)
-  pub place : Small (l .place)
-  pub inst : Small (l .inst)
-  pub fault : SmallFault (l .fault)
-
-unfoldable pub SmallLines : List Line → Type 0
-SmallLines [] = Unit {0}
-SmallLines (l ∷ ls) = SmallLine l × SmallLines ls
+use Rattle.walks.specs.Small.{Small, SmallName, SmallReg, SmallFault, SmallLine, SmallLines}
+use Rattle.walks.specs.Theorems.{read-reported}
+use Rattle.compare.specs.Pieces.{pieces-none, pieces-feed, pieces-more, pieces-some, not-empty}
 
 -- fields without a tab or a line feed
 
@@ -271,3 +243,16 @@ written-well rule ls h few =
     let fs : List Bytes = rule-text rule ∷ digits (length ls) ∷ [] in
     let p = header-plain rule (length ls) few in
     rw (row-closed fs (lines-text ls), piece-of (letter-R ∷ []) fs (lines-text ls) plain-R p, not-empty (pieces (lines-text ls)) (pieces-some (lines-text ls)), row-fields (letter-R ∷ []) fs plain-R p, header-counts rule (length ls) few, lines-judged (length ls) 2 ls h, eq-eqb (length ls + 2) (2 + length ls) (omega arith))
+
+-- what is written of a sheet that is read is the report of its faults
+said-text : (rule : Rule) (ls : List Line) → written (said-of rule ls) ≡ report-text rule ls
+unfolding said-of written
+said-text rule [] = refl
+said-text rule (l ∷ ls) = refl
+
+-- under either rule, and it is well formed
+pub report-well-formed : (rule : Rule) (bytes : Bytes) (S : Sheet) → read bytes ≡ loaded S → bad-line (written (answer rule bytes)) ≡ 0
+unfolding answer said-after
+report-well-formed rule bytes S e =
+    let r = read-reported rule bytes S e in
+    rw (e, said-text rule (faults rule S)) (written-well rule (faults rule S) (r .lines) (r .count))
