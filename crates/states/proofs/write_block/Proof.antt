@@ -39,16 +39,16 @@ visited-requires : tie.Need-visited-requires
 visited-requires c κs = search needs
 
 write-head-requires : tie.Need-write-head-requires
-write-head-requires c κs = let k = c .before .before .before .before in let s = start-of k in (omega (arith, block-room (s .pre .0) (s .pre .1), rows-at k), omega (arith, block-room (s .pre .0) (s .pre .1), rows-at k))
+write-head-requires c κs = let k = c .before .before .before in let s = start-of k in (omega (arith, block-room (s .pre .0) (s .pre .1), rows-at k), omega (arith, block-room (s .pre .0) (s .pre .1), rows-at k))
 
 write-row-requires : tie.Need-write-row-requires
-write-row-requires c κs = let k = c .before .before .before .before .before .before .before .before in let s = start-of k in (omega (arith, block-room (s .pre .0) (s .pre .1), rows-at k), omega (arith, block-room (s .pre .0) (s .pre .1), rows-at k))
+write-row-requires c κs = let k = c .before .before .before .before .before .before .before in let s = start-of k in (omega (arith, block-room (s .pre .0) (s .pre .1), rows-at k), omega (arith, block-room (s .pre .0) (s .pre .1), rows-at k))
 
 write-row-requires-2 : tie.Need-write-row-requires-2
-write-row-requires-2 c κs = let k = c .before .before .before .before .before .before .before .before .before .before .before .before in let s = start-of k in (omega (arith, block-room (s .pre .0) (s .pre .1), rows-at k), omega (arith, block-room (s .pre .0) (s .pre .1), rows-at k))
+write-row-requires-2 c κs = let k = c .before .before .before .before .before .before .before .before .before .before .before in let s = start-of k in (omega (arith, block-room (s .pre .0) (s .pre .1), rows-at k), omega (arith, block-room (s .pre .0) (s .pre .1), rows-at k))
 
 write-byte-requires : tie.Need-write-byte-requires
-write-byte-requires c κs = let k = c .before .before .before .before .before .before .before .before .before .before .before .before .before .before .before .before in let s = start-of k in omega (arith, block-room (s .pre .0) (s .pre .1), rows-at k)
+write-byte-requires c κs = let k = c .before .before .before .before .before .before .before .before .before .before .before .before .before .before .before in let s = start-of k in omega (arith, block-room (s .pre .0) (s .pre .1), rows-at k)
 
 same-length : tie.Need-same-length
 same-length c = search needs
