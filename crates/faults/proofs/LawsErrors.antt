@@ -18,10 +18,11 @@ use Rattle.paper.specs.Cells.{Cell, absent, unknown, conflicted, named, pick}
 use Rattle.paper.specs.Steps.{State, slot, get, Fault, first-of, check-use, check-uses, check-change, check-slot, check-slots, check}
 use Rattle.paper.specs.Steps as fault
 use Rattle.layout.specs.Layout.{row-widths}
-use Rattle.loaded.specs.Actions.{no-register, register-of, operand-of, operands, step-of, InRange}
+use Rattle.loaded.specs.Actions.{copy-step, no-register, register-of, operand-of, operands, step-of, InRange}
 use Rattle.steps.specs.Faults.{fault-of}
 use Rattle.loaded.specs.declared.Action.{Action}
-use Rattle.loaded.specs.declared.Action.the-variants.{Spill, Reload, Move, Change, Operation, Safepoint}
+use Rattle.loaded.specs.declared.Action.the-variants.{Copy, Change, Operation, Safepoint}
+use Rattle.loaded.specs.declared.CopyKind.the-variants.{Spill, Reload, Move}
 use Rattle.steps.specs.declared.CheckerError.{CheckerError}
 use Rattle.steps.specs.declared.CheckerError.the-variants as error
 use Rattle.faults.specs.Errors.{ErrorWithin}
@@ -98,10 +99,10 @@ bits-within (suc n) i m s h = go (eqb (m % 2) 1) (bits-within n (i + 1) (m / 2) 
     go false q = q
 
 check-within : (words : List ℕ) (a : Action) (s : State) → InRange row-widths words a → FaultWithin (check (step-of words a) s)
-unfolding check step-of operands set-bits
-check-within words (Spill k r) s h = tt
-check-within words (Reload r k) s h = tt
-check-within words (Move into from) s h = tt
+unfolding check step-of copy-step operands set-bits
+check-within words (Copy Spill k r) s h = tt
+check-within words (Copy Reload r k) s h = tt
+check-within words (Copy Move into from) s h = tt
 check-within words (Change inst k from to) s h = change-within k _ _ h
 check-within words (Operation inst at n m) s h =
     uses-within (region at n words) s λ i l.

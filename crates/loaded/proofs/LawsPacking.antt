@@ -9,19 +9,22 @@ use Rattle.lists.specs.Over.{over, getD-over-in}
 use Rattle.lists.specs.Kept.{Kept, kept-over}
 use Rattle.paper.specs.Limits.{max-steps}
 use Rattle.layout.specs.Layout.{step-base, step-words, all-words}
-use Rattle.loaded.specs.Actions.{action-of, action-at, packed, Packs}
+use Rattle.loaded.specs.Actions.{no-register, tag-of, action-of, action-at, packed, Packs}
+use Rattle.loaded.specs.declared.CopyKind.the-variants.{Spill, Reload, Move}
 use Rattle.loaded.specs.declared.Action.{Action}
-use Rattle.loaded.specs.declared.Action.the-variants.{Spill, Reload, Move, Change, Operation, Safepoint}
+use Rattle.loaded.specs.declared.Action.the-variants.{Copy, Change, Operation, Safepoint}
 
--- the last tag
-pub last-tag : (k t a b inst x y : ℕ) → (t ≡ 0 → ⊥) → (t ≡ 1 → ⊥) → (t ≡ 2 → ⊥) → (t ≡ 3 → ⊥) → (t ≡ 4 → ⊥) → Safepoint inst (x + y * 65536) ≡ action-of k t a b inst x y
+-- a tag that no step has
+pub last-tag : (k t a b inst x y : ℕ) → (t ≡ 0 → ⊥) → (t ≡ 1 → ⊥) → (t ≡ 2 → ⊥) → (t ≡ 3 → ⊥) → (t ≡ 4 → ⊥) → (t ≡ 5 → ⊥)
+    → Copy Move no-register no-register ≡ action-of k t a b inst x y
 unfolding action-of
-last-tag k zero a b inst x y h0 h1 h2 h3 h4 = absurd (h0 refl)
-last-tag k (suc zero) a b inst x y h0 h1 h2 h3 h4 = absurd (h1 refl)
-last-tag k (suc (suc zero)) a b inst x y h0 h1 h2 h3 h4 = absurd (h2 refl)
-last-tag k (suc (suc (suc zero))) a b inst x y h0 h1 h2 h3 h4 = absurd (h3 refl)
-last-tag k (suc (suc (suc (suc zero)))) a b inst x y h0 h1 h2 h3 h4 = absurd (h4 refl)
-last-tag k (suc (suc (suc (suc (suc t))))) a b inst x y h0 h1 h2 h3 h4 = refl
+last-tag k zero a b inst x y h0 h1 h2 h3 h4 h5 = absurd (h0 refl)
+last-tag k (suc zero) a b inst x y h0 h1 h2 h3 h4 h5 = absurd (h1 refl)
+last-tag k (suc (suc zero)) a b inst x y h0 h1 h2 h3 h4 h5 = absurd (h2 refl)
+last-tag k (suc (suc (suc zero))) a b inst x y h0 h1 h2 h3 h4 h5 = absurd (h3 refl)
+last-tag k (suc (suc (suc (suc zero)))) a b inst x y h0 h1 h2 h3 h4 h5 = absurd (h4 refl)
+last-tag k (suc (suc (suc (suc (suc zero))))) a b inst x y h0 h1 h2 h3 h4 h5 = absurd (h5 refl)
+last-tag k (suc (suc (suc (suc (suc (suc t)))))) a b inst x y h0 h1 h2 h3 h4 h5 = refl
 
 -- the words of an action, taken apart
 abbrev from-words : ℕ → List ℕ → Action
@@ -39,10 +42,10 @@ module _ (k inst x y : ℕ) where
       rw (e₁, q₂, q₃, e₂, e₃)
 
 apart : (k : ℕ) (action : Action) → Packs k action → from-words k (packed action) ≡ action
-unfolding packed action-of
-apart k (Spill slot r) h = head-apart k 0 0 0 0 slot r (omega arith) (h .0) (h .1)
-apart k (Reload r slot) h = head-apart k 0 0 0 1 r slot (omega arith) (h .0) (h .1)
-apart k (Move into from) h = head-apart k 0 0 0 2 into from (omega arith) (h .0) (h .1)
+unfolding packed action-of tag-of
+apart k (Copy Spill into from) h = head-apart k 0 0 0 0 into from (omega arith) (h .0) (h .1)
+apart k (Copy Reload into from) h = head-apart k 0 0 0 1 into from (omega arith) (h .0) (h .1)
+apart k (Copy Move into from) h = head-apart k 0 0 0 2 into from (omega arith) (h .0) (h .1)
 apart k (Change inst slot from to) h = head-apart k inst from to 3 slot 0 (omega arith) h (omega arith)
 apart k (Operation inst at n m) h = head-apart k inst 0 0 4 n m (omega arith) (h .1) (h .2) ∙ ap (λ (q : ℕ). Operation inst q n m) (sym (h .0))
 apart k (Safepoint inst mask) h =

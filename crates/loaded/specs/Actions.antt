@@ -18,8 +18,11 @@ use Rattle.paper.specs.Limits.{max-operands, max-steps}
 use Rattle.layout.specs.Layout.{step-base, step-words, operand-base, defs-from, operand-words, all-words}
 use Rattle.cells.specs.Packed.{name-of-word, marked}
 use Rattle.cells.specs.States.{RowsFit}
+use Rattle.loaded.specs.declared.CopyKind.{CopyKind}
+use Rattle.loaded.specs.declared.CopyKind.the-variants.{Spill, Reload, Move}
+use Rattle.loaded.specs.declared.CopyRows.{CopyRows}
 use Rattle.loaded.specs.declared.Action.{Action}
-use Rattle.loaded.specs.declared.Action.the-variants.{Spill, Reload, Move, Change, Operation, Safepoint}
+use Rattle.loaded.specs.declared.Action.the-variants.{Copy, Change, Operation, Safepoint}
 
 abbrev pub no-register : ℕ
 no-register = 63
@@ -33,22 +36,32 @@ operand-of w = record { name = name-of-word w; reg = register-of (w / 1024) }
 unfoldable pub operands : ℕ → ℕ → List ℕ → List Operand
 operands at n words = map operand-of (region at n words)
 
+-- a copy: its rows, registers first and then slots, and its step
+unfoldable pub rows-of : CopyKind → CopyRows
+rows-of Spill = record { into = 1; from = 0 }
+rows-of Reload = record { into = 0; from = 1 }
+rows-of Move = record { into = 0; from = 0 }
+
+unfoldable pub copy-step : CopyKind → ℕ → ℕ → Step
+copy-step Spill k r = spill k r
+copy-step Reload r k = reload r k
+copy-step Move into from = move into from
+
 unfoldable pub step-of : List ℕ → Action → Step
-step-of words (Spill k r) = spill k r
-step-of words (Reload r k) = reload r k
-step-of words (Move into from) = move into from
+step-of words (Copy kind into from) = copy-step kind into from
 step-of words (Change inst k from to) = change inst k (name-of-word from) (name-of-word to)
 step-of words (Operation inst at n m) = operation inst (operands at n words) (operands (at + defs-from) m words)
 step-of words (Safepoint inst mask) = safepoint inst (set-bits mask)
 
--- the action that a step's place, tag, two numbers and three words give
+-- the action that a step's place, tag, two numbers and three words give; no sheet has another tag than the six, and none this move
 unfoldable pub action-of : ℕ → ℕ → ℕ → ℕ → ℕ → ℕ → ℕ → Action
-action-of k zero a b inst x y = Spill a b
-action-of k (suc zero) a b inst x y = Reload a b
-action-of k (suc (suc zero)) a b inst x y = Move a b
+action-of k zero a b inst x y = Copy Spill a b
+action-of k (suc zero) a b inst x y = Copy Reload a b
+action-of k (suc (suc zero)) a b inst x y = Copy Move a b
 action-of k (suc (suc (suc zero))) a b inst x y = Change inst a x y
 action-of k (suc (suc (suc (suc zero)))) a b inst x y = Operation inst (operand-base + k * operand-words) a b
-action-of k (suc (suc (suc (suc (suc t))))) a b inst x y = Safepoint inst (x + y * 65536)
+action-of k (suc (suc (suc (suc (suc zero))))) a b inst x y = Safepoint inst (x + y * 65536)
+action-of k (suc (suc (suc (suc (suc (suc t)))))) a b inst x y = Copy Move no-register no-register
 
 -- the k-th step of the sheet
 unfoldable pub action-at : List ℕ → ℕ → Action
@@ -57,11 +70,14 @@ action-at words k =
     let w = getD words at 0 in
     action-of k (w % 8) (w / 8 % 64) (w / 512 % 64) (getD words (at + 1) 0) (getD words (at + 2) 0) (getD words (at + 3) 0)
 
+unfoldable pub tag-of : CopyKind → ℕ
+tag-of Spill = 0
+tag-of Reload = 1
+tag-of Move = 2
+
 -- the four words of an action
 unfoldable pub packed : Action → List ℕ
-packed (Spill k r) = (0 + k * 8 + r * 512) ∷ 0 ∷ 0 ∷ 0 ∷ []
-packed (Reload r k) = (1 + r * 8 + k * 512) ∷ 0 ∷ 0 ∷ 0 ∷ []
-packed (Move into from) = (2 + into * 8 + from * 512) ∷ 0 ∷ 0 ∷ 0 ∷ []
+packed (Copy kind into from) = (tag-of kind + into * 8 + from * 512) ∷ 0 ∷ 0 ∷ 0 ∷ []
 packed (Change inst k from to) = (3 + k * 8 + 0 * 512) ∷ inst ∷ from ∷ to ∷ []
 packed (Operation inst at n m) = (4 + n * 8 + m * 512) ∷ inst ∷ 0 ∷ 0 ∷ []
 packed (Safepoint inst mask) = (5 + 0 * 8 + 0 * 512) ∷ inst ∷ (mask % 65536) ∷ (mask / 65536) ∷ []
@@ -73,9 +89,7 @@ steps-at words k (suc n) = step-of words (action-at words k) ∷ steps-at words 
 
 -- the numbers of an action are below the counts, and its operands' registers as `Register` says
 abbrev pub Within : List ℕ → (ℕ → Type 0) → List ℕ → Action → Type 0
-Within counts Register words (Spill k r) = (k < getD counts 1 0) × (r < getD counts 0 0)
-Within counts Register words (Reload r k) = (r < getD counts 0 0) × (k < getD counts 1 0)
-Within counts Register words (Move into from) = (into < getD counts 0 0) × (from < getD counts 0 0)
+Within counts Register words (Copy kind into from) = (into < getD counts (rows-of kind .into) 0) × (from < getD counts (rows-of kind .from) 0)
 Within counts Register words (Change inst k from to) = k < getD counts 1 0
 Within counts Register words (Operation inst at n m) =
     (n ≤ max-operands) × (m ≤ max-operands) × (at + operand-words ≤ length words)
@@ -93,27 +107,21 @@ InRange counts words a = Within counts (λ r. r < getD counts 0 0) words a
 
 -- the marks of an operation's defs are those of `T`
 abbrev pub Honest : (Name → Bool) → List ℕ → Action → Type 0
-Honest ref words (Spill k r) = Unit {0}
-Honest ref words (Reload r k) = Unit {0}
-Honest ref words (Move into from) = Unit {0}
+Honest ref words (Copy kind into from) = Unit {0}
 Honest ref words (Change inst k from to) = Unit {0}
 Honest ref words (Operation inst at n m) = (i : ℕ) → i < m → ref (name-of-word (getD words (at + defs-from + i) 0)) ≡ marked (getD words (at + defs-from + i) 0)
 Honest ref words (Safepoint inst mask) = Unit {0}
 
 -- what fits the four words of the k-th step
 abbrev pub Packs : ℕ → Action → Type 0
-Packs k (Spill slot r) = (slot < 64) × (r < 64)
-Packs k (Reload r slot) = (r < 64) × (slot < 64)
-Packs k (Move into from) = (into < 64) × (from < 64)
+Packs k (Copy kind into from) = (into < 64) × (from < 64)
 Packs k (Change inst slot from to) = slot < 64
 Packs k (Operation inst at n m) = (at ≡ operand-base + k * operand-words) × (n < 64) × (m < 64)
 Packs k (Safepoint inst mask) = Unit {0}
 
 -- an operation's operands lie in the words
 abbrev pub RoomFor : Action → List ℕ → Type 0
-RoomFor (Spill k r) words = Unit {0}
-RoomFor (Reload r k) words = Unit {0}
-RoomFor (Move into from) words = Unit {0}
+RoomFor (Copy kind into from) words = Unit {0}
 RoomFor (Change inst k from to) words = Unit {0}
 RoomFor (Operation inst at n m) words = (n ≤ max-operands) × (m ≤ max-operands) × (at + operand-words ≤ length words)
 RoomFor (Safepoint inst mask) words = Unit {0}

@@ -16,9 +16,9 @@ use Rattle.paper.specs.Report.{unallocated, first-list, missing-names}
 use Rattle.layout.specs.Layout.{defs-from, row-words, row-widths}
 use Rattle.cells.specs.States.{RowsFit}
 use Rattle.cells.specs.Laws.{narrow-at}
-use Rattle.loaded.specs.Actions.{no-register, register-of, operand-of, operands, step-of, action-at, Within, Ranged, InRange, RoomFor, Runnable}
+use Rattle.loaded.specs.Actions.{rows-of, no-register, register-of, operand-of, operands, step-of, action-at, Within, Ranged, InRange, RoomFor, Runnable}
 use Rattle.loaded.specs.declared.Action.{Action}
-use Rattle.loaded.specs.declared.Action.the-variants.{Spill, Reload, Move, Change, Operation, Safepoint}
+use Rattle.loaded.specs.declared.Action.the-variants.{Copy, Change, Operation, Safepoint}
 
 -- what is in range of fewer cells is in range of the most
 pub in-range-most : (counts words : List ℕ) (a : Action) → RowsFit counts → InRange counts words a → InRange row-widths words a
@@ -31,9 +31,8 @@ in-range-most counts words a fit h = most a h
     slots = narrow-at row-widths counts fit 1
 
     most : (a : Action) → InRange counts words a → InRange row-widths words a
-    most (Spill k r) h = (omega (arith, slots), omega (arith, regs))
-    most (Reload r k) h = (omega (arith, regs), omega (arith, slots))
-    most (Move into from) h = (omega (arith, regs), omega (arith, regs))
+    most (Copy kind into from) h =
+        (omega (arith, narrow-at row-widths counts fit (rows-of kind .into)), omega (arith, narrow-at row-widths counts fit (rows-of kind .from)))
     most (Change inst k from to) h = omega (arith, slots)
     most (Operation inst at n m) h =
         (h .0, h .1, h .2, λ i q. let b = h .3 i q in omega (arith, regs), λ i q. let b = h .4 i q in omega (arith, regs))
@@ -49,9 +48,7 @@ runnable-most {counts} {words} r = record {
 
 -- a step that was read has room for its operands
 pub room-within : (counts : List ℕ) (Register : ℕ → Type 0) (l : List ℕ) (a : Action) → Within counts Register l a → RoomFor a l
-room-within counts Register l (Spill slot r) w = tt
-room-within counts Register l (Reload r slot) w = tt
-room-within counts Register l (Move into from) w = tt
+room-within counts Register l (Copy kind into from) w = tt
 room-within counts Register l (Change inst slot from to) w = tt
 room-within counts Register l (Operation inst at uses defs) w = (w .0, w .1, w .2)
 room-within counts Register l (Safepoint inst mask) w = tt
@@ -83,9 +80,7 @@ module _ (regs : ℕ) (words : List ℕ) (at n : ℕ) (room : at + n ≤ length 
 
 pub allocated : (counts words : List ℕ) (a : Action) → Ranged counts words a → missing-names (step-of words a) ≡ [] → InRange counts words a
 unfolding missing-names step-of
-allocated counts words (Spill k r) h e = h
-allocated counts words (Reload r k) h e = h
-allocated counts words (Move into from) h e = h
+allocated counts words (Copy kind into from) h e = h
 allocated counts words (Change inst k from to) h e = h
 allocated counts words (Operation inst at n m) h e =
     let p : (unallocated (operands at n words) ≡ []) × (unallocated (operands (at + defs-from) m words) ≡ []) = both-none _ _ e in

@@ -13,7 +13,7 @@ use Rattle.paper.specs.Sheet.{Step}
 use Rattle.layout.specs.Layout.{step-base, step-words, operand-base, defs-from, operand-words}
 use Rattle.loaded.specs.Actions.{operand-of, operands, step-of, action-of, action-at, steps-at, Within, Honest, Packs, RoomFor}
 use Rattle.loaded.specs.declared.Action.{Action}
-use Rattle.loaded.specs.declared.Action.the-variants.{Spill, Reload, Move, Change, Operation, Safepoint}
+use Rattle.loaded.specs.declared.Action.the-variants.{Copy, Change, Operation, Safepoint}
 
 -- the operands of the first n steps are the same
 pub record SameOperands (l m : List ℕ) (n : ℕ) : Type 0 where
@@ -32,7 +32,8 @@ packs-of k (suc zero) a b inst x y ha hb = (ha, hb)
 packs-of k (suc (suc zero)) a b inst x y ha hb = (ha, hb)
 packs-of k (suc (suc (suc zero))) a b inst x y ha hb = ha
 packs-of k (suc (suc (suc (suc zero)))) a b inst x y ha hb = (refl, ha, hb)
-packs-of k (suc (suc (suc (suc (suc t))))) a b inst x y ha hb = tt
+packs-of k (suc (suc (suc (suc (suc zero))))) a b inst x y ha hb = tt
+packs-of k (suc (suc (suc (suc (suc (suc t)))))) a b inst x y ha hb = (omega arith, omega arith)
 
 -- a step's operands stand at its own place
 pub packs-at : (l : List ℕ) (k : ℕ) → Packs k (action-at l k)
@@ -70,18 +71,14 @@ module _ {l m : List ℕ} {n : ℕ} (same : SameOperands l m n) (k : ℕ) (h : k
 
   pub same-step : (a : Action) → Packs k a → RoomFor a l → step-of m a ≡ step-of l a
   unfolding step-of
-  same-step (Spill slot r) p q = refl
-  same-step (Reload r slot) p q = refl
-  same-step (Move into from) p q = refl
+  same-step (Copy kind into from) p q = refl
   same-step (Change inst slot from to) p q = refl
   same-step (Operation inst at uses defs) p q =
       rw (same-uses at (p .0) uses (q .0) (q .2), same-defs at (p .0) defs (q .1) (q .2))
   same-step (Safepoint inst mask) p q = refl
 
   pub same-within : (counts : List ℕ) (Register : ℕ → Type 0) (a : Action) → Packs k a → Within counts Register l a → Within counts Register m a
-  same-within counts Register (Spill slot r) p w = w
-  same-within counts Register (Reload r slot) p w = w
-  same-within counts Register (Move into from) p w = w
+  same-within counts Register (Copy kind into from) p w = w
   same-within counts Register (Change inst slot from to) p w = w
   same-within counts Register (Operation inst at uses defs) p w = (
     w .0,
@@ -94,9 +91,7 @@ module _ {l m : List ℕ} {n : ℕ} (same : SameOperands l m n) (k : ℕ) (h : k
 
   module _ (ref ref′ : Name → Bool) (e : (name : Name) → ref′ name ≡ ref name) where
     pub same-honest : (a : Action) → Packs k a → RoomFor a l → Honest ref l a → Honest ref′ m a
-    same-honest (Spill slot r) p q t = t
-    same-honest (Reload r slot) p q t = t
-    same-honest (Move into from) p q t = t
+    same-honest (Copy kind into from) p q t = t
     same-honest (Change inst slot from to) p q t = t
     same-honest (Operation inst at uses defs) p q t = λ i h. rw (same-def at (p .0) i (omega arith), e) (t i h)
     same-honest (Safepoint inst mask) p q t = t

@@ -10,7 +10,7 @@ ghost use Rattle.paper.specs.Limits.{max-blocks, max-succs, max-steps};
 ghost use Rattle.paper.specs.Refusals.{function-record, typed-record, block-record, step-record};
 ghost use Rattle.layout.specs.Layout.{regs-word, vregs-word, blocks-word, entry-word, opened-word, steps-word, least-word, step-base, step-words, defs-from, operand-words, succ-base, all-words};
 ghost use Rattle.cells.specs.States.{row-counts};
-ghost use Rattle.loaded.specs.Actions.{operands, step-of, action-at, packed, Packs};
+ghost use Rattle.loaded.specs.Actions.{rows-of, operands, step-of, action-at, tag-of, packed, Packs};
 ghost use Rattle.loaded.specs.Loaded.{first-step, step-total, succ-total, counts-in, counts-of, reached-of, sheet-of};
 ghost use Rattle.loaded.specs.Filling.{Blank, Begun, FunctionWithin, BlockWithin, GroupWithin, Fits, Stored};
 use cells::RowCounts;
@@ -38,17 +38,23 @@ use layout::VREGS_WORD;
 // The register of an operand that has no allocation.
 pub const NO_REGISTER: u16 = 63;
 
+// A copy of one cell, by the rows that it goes between: a slot from a register, a register from a slot, a register from a register.
+pub enum CopyKind {
+    Spill,
+    Reload,
+    Move,
+}
+
+// The rows of a copy.
+pub struct CopyRows {
+    pub into: usize,
+    pub from: usize,
+}
+
 // A step. An operation's uses stand in the lent words from `at` on, its defs from `at + DEFS_FROM` on.
 pub enum Action {
-    Spill {
-        slot: usize,
-        reg: usize,
-    },
-    Reload {
-        reg: usize,
-        slot: usize,
-    },
-    Move {
+    Copy {
+        kind: CopyKind,
         into: usize,
         from: usize,
     },
@@ -93,7 +99,7 @@ fn mask_of(low: u16, high: u16) -> u32
     low as u32 + high as u32 * 65536
 }
 
-// The k-th step of the sheet.
+// The k-th step of the sheet. No sheet has another tag than the six: it is read as a move between registers that no sheet has.
 pub fn action_at(words: &[u16], k: usize) -> Action
     requires { ⌜ (k < max-steps) × (all-words ≤ length (now words)) ⌝ }
     ensures { λ r. ⌜ r ≡ action-at (now (words .entry)) k ⌝ }
@@ -107,9 +113,21 @@ pub fn action_at(words: &[u16], k: usize) -> Action
     let a = (w / 8 % 64) as usize;
     let b = (w / 512 % 64) as usize;
     match tag {
-        0 => Action::Spill { slot: a, reg: b },
-        1 => Action::Reload { reg: a, slot: b },
-        2 => Action::Move { into: a, from: b },
+        0 => Action::Copy {
+            kind: CopyKind::Spill,
+            into: a,
+            from: b,
+        },
+        1 => Action::Copy {
+            kind: CopyKind::Reload,
+            into: a,
+            from: b,
+        },
+        2 => Action::Copy {
+            kind: CopyKind::Move,
+            into: a,
+            from: b,
+        },
         3 => Action::Change {
             inst: inst,
             slot: a,
@@ -122,10 +140,36 @@ pub fn action_at(words: &[u16], k: usize) -> Action
             uses: a,
             defs: b,
         },
-        _ => Action::Safepoint {
+        5 => Action::Safepoint {
             inst: inst,
             mask: mask_of(x, y),
         },
+        _ => Action::Copy {
+            kind: CopyKind::Move,
+            into: NO_REGISTER as usize,
+            from: NO_REGISTER as usize,
+        },
+    }
+}
+
+fn tag_of(kind: CopyKind) -> usize
+    ensures { λ r. ⌜ (r ≡ tag-of kind) × (r < 3) ⌝ }
+{
+    match kind {
+        CopyKind::Spill => 0,
+        CopyKind::Reload => 1,
+        CopyKind::Move => 2,
+    }
+}
+
+// The rows that a copy goes between.
+pub fn rows_of(kind: CopyKind) -> CopyRows
+    ensures { λ r. ⌜ r ≡ rows-of kind ⌝ }
+{
+    match kind {
+        CopyKind::Spill => CopyRows { into: 1, from: 0 },
+        CopyKind::Reload => CopyRows { into: 0, from: 1 },
+        CopyKind::Move => CopyRows { into: 0, from: 0 },
     }
 }
 
@@ -142,9 +186,7 @@ fn packed(action: Action) -> [u16; STEP_WORDS]
     ensures { λ r. ⌜ r ≡ packed action ⌝ }
 {
     match action {
-        Action::Spill { slot, reg } => [head(0, slot, reg), 0, 0, 0],
-        Action::Reload { reg, slot } => [head(1, reg, slot), 0, 0, 0],
-        Action::Move { into, from } => [head(2, into, from), 0, 0, 0],
+        Action::Copy { kind, into, from } => [head(tag_of(kind), into, from), 0, 0, 0],
         Action::Change {
             inst,
             slot,

@@ -4,34 +4,35 @@ use mathlib.Core.List.{List}
 use Prim.Native.Nat.{ℕ, _^_, _<_}
 use native.Mathlib.Omega.{arith}
 use lib.ListN.{getD}
-use Rattle.layout.specs.Layout.{regs-word, slots-word}
-use Rattle.loaded.specs.declared.Action.the-variants.{Spill, Reload, Move, Change, Safepoint}
-use Rattle.sheet.specs.Reading.{Progress}
+use Rattle.layout.specs.Layout.{slots-word}
+use Rattle.loaded.specs.declared.Action.the-variants.{Copy, Change, Safepoint}
+use Rattle.loaded.specs.declared.CopyKind.{CopyKind}
+use Rattle.loaded.specs.declared.CopyKind.the-variants.{Spill, Reload, Move}
+use Rattle.loaded.specs.Actions.{rows-of, copy-step}
+use Rattle.paper.specs.Sheet.{Sheet}
+use Rattle.records.specs.Pairs.{spill-paired, reload-paired, move-paired}
+use Rattle.sheet.specs.declared.CopyLimits.{CopyLimits}
+use Rattle.sheet.specs.Reading.{Progress, limits-of}
 use Rattle.loaded.specs.Filling.{Fits}
-use Rattle.records.specs.Records.{PairWithin}
+use Rattle.records.specs.Records.{Counted, Paired, PairWithin}
 use Rattle.loaded.specs.declared.Counts.{Counts}
-use Rattle.loaded.specs.Loaded.{counts-of}
+use Rattle.loaded.specs.Loaded.{counts-in, counts-of}
 use Rattle.sheet.proofs.LawsProgress.{counts-within}
 
 module _ (l : List ℕ) (p : Progress l) where
-  module _ {counts : Counts} (e : counts ≡ counts-of l) where
-    pub spill-fits : {k r : ℕ} → PairWithin (counts .slots) (counts .regs) k r → Fits l (Spill k r)
-    spill-fits h =
-        let w = counts-within l p in
-        let q : PairWithin (getD l slots-word 0) (getD l regs-word 0) _ _ = rw e at h in
-        record { packs = (omega (arith, q .first-below), omega (arith, q .second-below)); ranged = (q .first-below, q .second-below); honest = tt }
-
-    pub reload-fits : {r k : ℕ} → PairWithin (counts .regs) (counts .slots) r k → Fits l (Reload r k)
-    reload-fits h =
-        let w = counts-within l p in
-        let q : PairWithin (getD l regs-word 0) (getD l slots-word 0) _ _ = rw e at h in
-        record { packs = (omega (arith, q .first-below), omega (arith, q .second-below)); ranged = (q .first-below, q .second-below); honest = tt }
-
-    pub move-fits : {into from : ℕ} → PairWithin (counts .regs) (counts .regs) into from → Fits l (Move into from)
-    move-fits h =
-        let w = counts-within l p in
-        let q : PairWithin (getD l regs-word 0) (getD l regs-word 0) _ _ = rw e at h in
-        record { packs = (omega (arith, q .first-below), omega (arith, q .second-below)); ranged = (q .first-below, q .second-below); honest = tt }
+  pub copy-fits : {counts : Counts} {limits : CopyLimits} (kind : CopyKind) {a b : ℕ} → counts ≡ counts-of l → limits ≡ limits-of kind counts
+      → PairWithin (limits .into) (limits .from) a b → Fits l (Copy kind a b)
+  copy-fits kind {a} {b} e q h =
+      let w = counts-within l p in
+      let k : PairWithin (limits-of kind (counts-of l) .into) (limits-of kind (counts-of l) .from) a b = rw (q, e) at h in
+      let below = copied kind (k .first-below) (k .second-below) in
+      record { packs = below .0; ranged = below .1; honest = tt }
+    where
+      copied : (kind : CopyKind) {a b : ℕ} → a < limits-of kind (counts-of l) .into → b < limits-of kind (counts-of l) .from
+          → ((a < 64) × (b < 64)) × ((a < getD (counts-in l) (rows-of kind .into) 0) × (b < getD (counts-in l) (rows-of kind .from) 0))
+      copied Spill ha hb = unfold limits-of rows-of in let w = counts-within l p in ((omega arith, omega arith), (ha, hb))
+      copied Reload ha hb = unfold limits-of rows-of in let w = counts-within l p in ((omega arith, omega arith), (ha, hb))
+      copied Move ha hb = unfold limits-of rows-of in let w = counts-within l p in ((omega arith, omega arith), (ha, hb))
 
   pub change-fits : (inst k from to : ℕ) → k < getD l slots-word 0 → Fits l (Change inst k from to)
   change-fits inst k from to h =
@@ -40,3 +41,11 @@ module _ (l : List ℕ) (p : Progress l) where
 
   pub safepoint-fits : (inst mask : ℕ) → mask < 2 ^ getD l slots-word 0 → Fits l (Safepoint inst mask)
   safepoint-fits inst mask h = record { packs = tt; ranged = h; honest = tt }
+
+-- the two numbers of a copy, held against its limits as the paper holds them
+pub copy-paired : {S : Sheet} {counts : Counts} {limits : CopyLimits} (kind : CopyKind) → Counted S counts → limits ≡ limits-of kind counts
+    → Paired S (copy-step kind) (limits .into) (limits .from)
+unfolding limits-of copy-step
+copy-paired Spill h e = rw e (spill-paired h)
+copy-paired Reload h e = rw e (reload-paired h)
+copy-paired Move h e = rw e (move-paired h)

@@ -13,8 +13,12 @@ use Rattle.paper.specs.Refusals as paper
 use Rattle.layout.specs.Layout.{opened-word, steps-word}
 use Rattle.fields.specs.Fields.{line-end}
 use Rattle.records.specs.declared.Place.{Place}
+use Rattle.loaded.specs.declared.Counts.{Counts}
+use Rattle.loaded.specs.declared.CopyKind.{CopyKind}
+use Rattle.loaded.specs.declared.CopyKind.the-variants.{Spill, Reload, Move}
 use Rattle.loaded.specs.Filling.{Blank, Begun}
 use Rattle.loaded.specs.Loaded.{sheet-of, so-far, Loaded}
+use Rattle.sheet.specs.declared.CopyLimits.{CopyLimits}
 use Rattle.sheet.specs.declared.Lined as Lined
 use Rattle.sheet.specs.declared.Lined.the-variants as lined
 use Rattle.sheet.specs.declared.Loading as Loading
@@ -35,6 +39,12 @@ pub data Progress (words : List ℕ) : Type 0 where
 -- a step is out of place before the first block, and one too many behind the last that there is room for
 abbrev pub step-place : List ℕ → Place
 step-place words = record { misplaced = eqb (getD words opened-word 0) 0; surplus = leb max-steps (getD words steps-word 0) }
+
+-- what the two numbers of a copy are held against
+unfoldable pub limits-of : CopyKind → Counts → CopyLimits
+limits-of Spill counts = record { into = counts .slots; from = counts .regs }
+limits-of Reload counts = record { into = counts .regs; from = counts .slots }
+limits-of Move counts = record { into = counts .regs; from = counts .regs }
 
 -- one line
 

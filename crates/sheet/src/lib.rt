@@ -4,18 +4,20 @@ ghost use mathlib.Core.Path.{_≡_};
 ghost use Prim.Native.Nat.{_+_, _≤_, _<_};
 ghost use lib.ListN.{length};
 ghost use Rattle.paper.specs.Text.{fields};
-ghost use Rattle.paper.specs.Sheet.{spill, reload, move};
 ghost use Rattle.paper.specs.Limits.{words-size};
 ghost use Rattle.paper.specs.Refusals.{one-byte, function-of, typed-of, block-of, two-numbers-of, change-of, operation-of, safepoint-of, record-of, no-text};
 ghost use Rattle.layout.specs.Layout.{all-words};
 ghost use Rattle.fields.specs.Fields.{field-at, line-at, fields-behind};
 ghost use Rattle.records.specs.Records.{Behind};
-ghost use Rattle.sheet.specs.Reading.{SheetText, Progress, step-place, LineRead, Load};
+ghost use Rattle.loaded.specs.Actions.{copy-step};
+ghost use Rattle.sheet.specs.Reading.{limits-of, SheetText, Progress, step-place, LineRead, Load};
 use layout::BLOCK_BASE;
 use layout::MAX_SHEET;
 use layout::MAX_STEPS;
 use layout::TYPED_BASE;
 use loaded::Action;
+use loaded::CopyKind;
+use loaded::Counts;
 use paper::ILL_FORMED;
 use paper::NO_TEXT;
 use paper::OUT_OF_PLACE;
@@ -40,6 +42,12 @@ pub enum Loading {
 pub enum Lined {
     Good(usize),
     Bad(Breach),
+}
+
+// The limits of a copy's two numbers.
+pub struct CopyLimits {
+    pub into: u32,
+    pub from: u32,
 }
 
 // Refusal 2: the sheet is empty, too long, or its last byte is not LF.
@@ -153,58 +161,43 @@ fn read_block(sheet: &[u8], at: usize, words: &mut [u16]) -> Lined
     }
 }
 
-// `S slot reg`
-fn read_spill(sheet: &[u8], at: usize, words: &mut [u16]) -> Lined
-    requires { ⌜ Behind (now sheet) at × Progress (now words) ⌝ }
-    ensures { λ r. ⌜ LineRead (two-numbers-of spill (fields-behind (now (sheet .entry)) at)) (now (sheet .entry)) at (now (words .entry)) (now (words .exit)) r ⌝ }
+// What the two numbers of a copy are held against: the counts of the rows that it goes between.
+fn limits_of(kind: CopyKind, counts: Counts) -> CopyLimits
+    ensures { λ r. ⌜ r ≡ limits-of kind counts ⌝ }
 {
-    let place = step_place(words);
-    let counts = loaded::counts_of(words);
-    let line = records::pair_line(sheet, at, place, counts.slots, counts.regs);
-    match line {
-        PairLine::Bad(breach) => Lined::Bad(breach),
-        PairLine::Good { a, b, next } => {
-            let slot = a as usize;
-            let reg = b as usize;
-            loaded::add_step(words, Action::Spill { slot, reg });
-            Lined::Good(next + 1)
-        }
+    let regs = counts.regs;
+    let slots = counts.slots;
+    match kind {
+        CopyKind::Spill => CopyLimits {
+            into: slots,
+            from: regs,
+        },
+        CopyKind::Reload => CopyLimits {
+            into: regs,
+            from: slots,
+        },
+        CopyKind::Move => CopyLimits {
+            into: regs,
+            from: regs,
+        },
     }
 }
 
-// `L reg slot`
-fn read_reload(sheet: &[u8], at: usize, words: &mut [u16]) -> Lined
+// `S slot reg`, `L reg slot`, `M into from`
+fn read_copy(kind: CopyKind, sheet: &[u8], at: usize, words: &mut [u16]) -> Lined
     requires { ⌜ Behind (now sheet) at × Progress (now words) ⌝ }
-    ensures { λ r. ⌜ LineRead (two-numbers-of reload (fields-behind (now (sheet .entry)) at)) (now (sheet .entry)) at (now (words .entry)) (now (words .exit)) r ⌝ }
+    ensures { λ r. ⌜ LineRead (two-numbers-of (copy-step kind) (fields-behind (now (sheet .entry)) at)) (now (sheet .entry)) at (now (words .entry)) (now (words .exit)) r ⌝ }
 {
     let place = step_place(words);
     let counts = loaded::counts_of(words);
-    let line = records::pair_line(sheet, at, place, counts.regs, counts.slots);
-    match line {
-        PairLine::Bad(breach) => Lined::Bad(breach),
-        PairLine::Good { a, b, next } => {
-            let reg = a as usize;
-            let slot = b as usize;
-            loaded::add_step(words, Action::Reload { reg, slot });
-            Lined::Good(next + 1)
-        }
-    }
-}
-
-// `M into from`
-fn read_move(sheet: &[u8], at: usize, words: &mut [u16]) -> Lined
-    requires { ⌜ Behind (now sheet) at × Progress (now words) ⌝ }
-    ensures { λ r. ⌜ LineRead (two-numbers-of move (fields-behind (now (sheet .entry)) at)) (now (sheet .entry)) at (now (words .entry)) (now (words .exit)) r ⌝ }
-{
-    let place = step_place(words);
-    let counts = loaded::counts_of(words);
-    let line = records::pair_line(sheet, at, place, counts.regs, counts.regs);
+    let limits = limits_of(kind, counts);
+    let line = records::pair_line(sheet, at, place, limits.into, limits.from);
     match line {
         PairLine::Bad(breach) => Lined::Bad(breach),
         PairLine::Good { a, b, next } => {
             let into = a as usize;
             let from = b as usize;
-            loaded::add_step(words, Action::Move { into, from });
+            loaded::add_step(words, Action::Copy { kind, into, from });
             Lined::Good(next + 1)
         }
     }
@@ -287,9 +280,9 @@ fn read_line(sheet: &[u8], at: usize, words: &mut [u16]) -> Lined
         b'F' => read_function(sheet, at + 1, words),
         b'T' => read_typed(sheet, at + 1, words),
         b'B' => read_block(sheet, at + 1, words),
-        b'S' => read_spill(sheet, at + 1, words),
-        b'L' => read_reload(sheet, at + 1, words),
-        b'M' => read_move(sheet, at + 1, words),
+        b'S' => read_copy(CopyKind::Spill, sheet, at + 1, words),
+        b'L' => read_copy(CopyKind::Reload, sheet, at + 1, words),
+        b'M' => read_copy(CopyKind::Move, sheet, at + 1, words),
         b'C' => read_change(sheet, at + 1, words),
         b'O' => read_operation(sheet, at + 1, words),
         b'P' => read_safepoint(sheet, at + 1, words),

@@ -16,12 +16,24 @@ use Rattle.paper.specs.Cells.{named, overwritten, copied, house-changed, old-ch
 use Rattle.paper.specs.Steps.{State, get, put, copy, cell-at, store-at, location-of, everywhere, placed, safepoint-row, old-define, house-define, old-effect, house-effect, effect, effects}
 use Rattle.paper.specs.declared.Rule.{Rule}
 use Rattle.paper.specs.declared.Rule.the-variants.{Old, House}
-use Rattle.layout.specs.Layout.{defs-from}
+use Rattle.layout.specs.Layout.{defs-from, row-words, row-widths}
 use Rattle.cells.specs.Packed.{name-of-word, marked, cell-of}
 use Rattle.cells.specs.States.{state-of}
 use Rattle.cells.specs.Laws.{made, state-cell, state-store}
-use Rattle.loaded.specs.Actions.{no-register, register-of, operand-of, operands, step-of, action-at, steps-at}
+use Rattle.loaded.specs.declared.CopyKind.{CopyKind}
+use Rattle.loaded.specs.declared.CopyKind.the-variants.{Spill, Reload, Move}
+use Rattle.loaded.specs.declared.CopyRows.{CopyRows}
+use Rattle.loaded.specs.Actions.{rows-of, copy-step, no-register, register-of, operand-of, operands, step-of, action-at, steps-at}
 use Rattle.steps.specs.Defs.{cleared-of, define-word, define-words}
+
+-- the rows of a copy are rows of a state, and its numbers cells of them
+pub copy-room : {rows : CopyRows} (kind : CopyKind) (into from : ℕ) → rows ≡ rows-of kind
+    → into < getD row-widths (rows-of kind .into) 0 → from < getD row-widths (rows-of kind .from) 0
+    → (rows .into < 2) × (into < row-words) × (rows .from < 2) × (from < row-words)
+unfolding rows-of
+copy-room Spill into from e a b = rw e (omega arith, omega arith, omega arith, omega arith)
+copy-room Reload into from e a b = rw e (omega arith, omega arith, omega arith, omega arith)
+copy-room Move into from e a b = rw e (omega arith, omega arith, omega arith, omega arith)
 
 -- one def: t is what the rule leaves of the state before the register is written
 pub defined : (counts : List ℕ) (rule : Rule) (w r : ℕ) (S : State) (t : List (List ℕ)) → r ≡ w / 1024 → (w / 1024 ≡ no-register → ⊥)
@@ -71,17 +83,25 @@ module _ (rule : Rule) (ref : Name → Bool) (S : State) where
       go Old = o
       go House = h
 
-  pub spill-effect : (k r : ℕ) → store-at 1 k (copied (cell-at S 0 r)) S ≡ effect rule ref (sheet.spill k r) S
+  spill-effect : (k r : ℕ) → store-at 1 k (copied (cell-at S 0 r)) S ≡ effect rule ref (sheet.spill k r) S
   unfolding old-effect house-effect copy put get
   spill-effect k r = by-rule (sheet.spill k r) (λ _. store-at 1 k (copied (cell-at S 0 r)) S) refl refl
 
-  pub reload-effect : (r k : ℕ) → store-at 0 r (copied (cell-at S 1 k)) S ≡ effect rule ref (sheet.reload r k) S
+  reload-effect : (r k : ℕ) → store-at 0 r (copied (cell-at S 1 k)) S ≡ effect rule ref (sheet.reload r k) S
   unfolding old-effect house-effect copy put get
   reload-effect r k = by-rule (sheet.reload r k) (λ _. store-at 0 r (copied (cell-at S 1 k)) S) refl refl
 
-  pub move-effect : (into from : ℕ) → store-at 0 into (copied (cell-at S 0 from)) S ≡ effect rule ref (sheet.move into from) S
+  move-effect : (into from : ℕ) → store-at 0 into (copied (cell-at S 0 from)) S ≡ effect rule ref (sheet.move into from) S
   unfolding old-effect house-effect copy put get
   move-effect into from = by-rule (sheet.move into from) (λ _. store-at 0 into (copied (cell-at S 0 from)) S) refl refl
+
+  -- a copy, by its rows
+  pub copy-effect : {rows : CopyRows} (kind : CopyKind) (into from : ℕ) → rows ≡ rows-of kind
+      → store-at (rows .into) into (copied (cell-at S (rows .from) from)) S ≡ effect rule ref (copy-step kind into from) S
+  unfolding rows-of copy-step
+  copy-effect Spill into from e = rw e (spill-effect into from)
+  copy-effect Reload into from e = rw e (reload-effect into from)
+  copy-effect Move into from e = rw e (move-effect into from)
 
   pub safepoint-effect : (inst mask : ℕ) → placed (safepoint-row rule (set-bits mask)) S ≡ effect rule ref (sheet.safepoint inst (set-bits mask)) S
   unfolding old-effect house-effect

@@ -58,9 +58,11 @@ pub fn inst_of(action: Action) -> u16
     ensures { λ r. ⌜ ((words : List ℕ) → r ≡ inst-of (step-of words action)) ⌝ }
 {
     match action {
-        Action::Spill { slot: _, reg: _ } => 0,
-        Action::Reload { reg: _, slot: _ } => 0,
-        Action::Move { into: _, from: _ } => 0,
+        Action::Copy {
+            kind: _,
+            into: _,
+            from: _,
+        } => 0,
         Action::Change {
             inst,
             slot: _,
@@ -291,9 +293,10 @@ pub fn update(words: &[u16], rule: Rule, s: &mut State, action: Action)
     ensures { λ r. ⌜ ((counts : List ℕ) → RowsFit counts → InRange counts (now (words .entry)) action → (ref : Name → Bool) → Honest ref (now (words .entry)) action → state-of counts (now (s .exit)) ≡ paper.effect rule ref (step-of (now (words .entry)) action) (state-of counts (now (s .entry)))) ⌝ }
 {
     match action {
-        Action::Spill { slot, reg } => cells::copy(s, 1, slot, 0, reg),
-        Action::Reload { reg, slot } => cells::copy(s, 0, reg, 1, slot),
-        Action::Move { into, from } => cells::copy(s, 0, into, 0, from),
+        Action::Copy { kind, into, from } => {
+            let rows = loaded::rows_of(kind);
+            cells::copy(s, rows.into, into, rows.from, from)
+        }
         Action::Change {
             inst: _,
             slot,

@@ -10,8 +10,9 @@ use types.Run.{OneOf, miss}
 use Rattle.paper.specs.Report.{missing-names, faults}
 use Rattle.loaded.proofs.Action.{the-type}
 use Rattle.loaded.specs.declared.Action.{Action}
-use Rattle.loaded.specs.declared.Action.the-variants.{Spill, Reload, Move, Change, Operation, Safepoint}
-use Rattle.loaded.specs.Actions.{step-of, RoomFor}
+use Rattle.loaded.specs.declared.Action.the-variants.{Copy, Change, Operation, Safepoint}
+use Rattle.loaded.specs.declared.CopyKind.the-variants.{Spill, Reload, Move}
+use Rattle.loaded.specs.Actions.{copy-step, step-of, RoomFor}
 use Rattle.steps.specs.Faults.{some-in}
 use Rattle.loaded.specs.Loaded.{sheet-of}
 use Rattle.report.specs.Lines.{PositionWithin}
@@ -23,13 +24,13 @@ use Rattle.faults.proofs.write_missing.Statement.{statement}
 use Rattle.faults.proofs.write_missing.Tie as tie
 
 -- no other step has operands
-other : (words : List ℕ) (a : Action) → OneOf (0 ∷ 1 ∷ 2 ∷ 3 ∷ 5 ∷ []) (tagOf the-type a) → some-in (missing-names (step-of words a)) ≡ true → ⊥
-unfolding some-in missing-names step-of
-other words (Spill k r) h e = true≢false (sym e)
-other words (Reload r k) h e = true≢false (sym e)
-other words (Move into from) h e = true≢false (sym e)
+other : (words : List ℕ) (a : Action) → OneOf (0 ∷ 1 ∷ 3 ∷ []) (tagOf the-type a) → some-in (missing-names (step-of words a)) ≡ true → ⊥
+unfolding some-in missing-names step-of copy-step
+other words (Copy Spill k r) h e = true≢false (sym e)
+other words (Copy Reload r k) h e = true≢false (sym e)
+other words (Copy Move into from) h e = true≢false (sym e)
 other words (Change inst k from to) h e = true≢false (sym e)
-other words (Operation inst at n m) h e = miss (0 ∷ 1 ∷ 2 ∷ 3 ∷ 5 ∷ []) 4 tt h
+other words (Operation inst at n m) h e = miss (0 ∷ 1 ∷ 3 ∷ []) 2 tt h
 other words (Safepoint inst mask) h e = true≢false (sym e)
 
 -- the step that was found

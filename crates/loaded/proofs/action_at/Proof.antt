@@ -1,9 +1,9 @@
--- `action_at` meets its contract: one case for each tag; every tag above 4 is a safepoint's (`last-tag`).
+-- `action_at` meets its contract: one case for each tag; every tag above 5 is no step's (`last-tag`).
 use borrow.Author.Needs.{needs}
-use Rattle.loaded.specs.Actions.{action-at, action-of}
-use Rattle.loaded.proofs.LawsPacking.{last-tag}
 use Rattle.loaded.proofs.action_at.Statement.{statement}
 use Rattle.loaded.proofs.action_at.Tie as tie
+use Rattle.loaded.specs.Actions.{action-at, action-of}
+use Rattle.loaded.proofs.LawsPacking.{last-tag}
 
 mul-at : tie.Need-mul-at
 mul-at c = search needs
@@ -50,14 +50,20 @@ cast-a c = search needs
 cast-b : tie.Need-cast-b
 cast-b c = search needs
 
-mul-t20 : tie.Need-mul-t20
-mul-t20 c = search needs
+mul-t23 : tie.Need-mul-t23
+mul-t23 c = search needs
 
-add-t21 : tie.Need-add-t21
-add-t21 c = search needs
+add-t24 : tie.Need-add-t24
+add-t24 c = search needs
 
 mask-of-requires : tie.Need-mask-of-requires
 mask-of-requires c κs = search needs
+
+cast-t27 : tie.Need-cast-t27
+cast-t27 c = search needs
+
+cast-t28 : tie.Need-cast-t28
+cast-t28 c = search needs
 
 returns : tie.Need-returns
 unfolding action-at action-of
@@ -80,10 +86,14 @@ unfolding action-at action-of
 returns-5 c = rw (c .match .keys5)
 
 returns-6 : tie.Need-returns-6
+unfolding action-at action-of
+returns-6 c = rw (c .before .match .keys6, c .mask-of .ensures)
+
+returns-7 : tie.Need-returns-7
 unfolding action-at
-returns-6 c =
-    let r = c .before .match .rest in
-    rw (c .mask-of .ensures) (last-tag _ _ _ _ _ _ _ (r .0 .0 .0 .0 .1) (r .0 .0 .0 .1) (r .0 .0 .1) (r .0 .1) (r .1))
+returns-7 c =
+    let r = c .match .rest in
+    last-tag _ _ _ _ _ _ _ (r .0 .0 .0 .0 .0 .1) (r .0 .0 .0 .0 .1) (r .0 .0 .0 .1) (r .0 .0 .1) (r .0 .1) (r .1)
 
 pub action-at-spec : {M : Type 1} → statement M
 action-at-spec =
@@ -104,12 +114,15 @@ action-at-spec =
     shared-slice-read-y
     cast-a
     cast-b
-    mul-t20
-    add-t21
+    mul-t23
+    add-t24
     mask-of-requires
+    cast-t27
+    cast-t28
     returns
     returns-2
     returns-3
     returns-4
     returns-5
-    returns-6)
+    returns-6
+    returns-7)

@@ -10,6 +10,7 @@ use Rattle.paper.specs.Limits.{max-sheet}
 use Rattle.paper.specs.Text.{fields}
 use Rattle.fields.specs.Fields.{line-at, fields-behind}
 use Rattle.records.specs.Records.{Behind}
+use Rattle.loaded.specs.Actions.{copy-step}
 use Rattle.sheet.specs.Reading.{LineRead, Progress}
 use Rattle.sheet.specs.declared.Lined as Lined
 use Rattle.sheet.proofs.read_line.Statement.{statement}
@@ -59,23 +60,23 @@ add-read-block c = omega (arith, next-small (c .before))
 read-block-requires : tie.Need-read-block-requires
 read-block-requires c κs = let m = c .before in ready (m .before) 66 (m .match .keys3) λ z. omega arith
 
-add-read-spill : tie.Need-add-read-spill
-add-read-spill c = omega (arith, next-small (c .before))
+add-read-copy : tie.Need-add-read-copy
+add-read-copy c = omega (arith, next-small (c .before))
 
-read-spill-requires : tie.Need-read-spill-requires
-read-spill-requires c κs = let m = c .before in ready (m .before) 83 (m .match .keys4) λ z. omega arith
+read-copy-requires : tie.Need-read-copy-requires
+read-copy-requires c κs = let m = c .before in ready (m .before) 83 (m .match .keys4) λ z. omega arith
 
-add-read-reload : tie.Need-add-read-reload
-add-read-reload c = omega (arith, next-small (c .before))
+add-read-copy-2 : tie.Need-add-read-copy-2
+add-read-copy-2 c = omega (arith, next-small (c .before))
 
-read-reload-requires : tie.Need-read-reload-requires
-read-reload-requires c κs = let m = c .before in ready (m .before) 76 (m .match .keys5) λ z. omega arith
+read-copy-requires-2 : tie.Need-read-copy-requires-2
+read-copy-requires-2 c κs = let m = c .before in ready (m .before) 76 (m .match .keys5) λ z. omega arith
 
-add-read-move : tie.Need-add-read-move
-add-read-move c = omega (arith, next-small (c .before))
+add-read-copy-3 : tie.Need-add-read-copy-3
+add-read-copy-3 c = omega (arith, next-small (c .before))
 
-read-move-requires : tie.Need-read-move-requires
-read-move-requires c κs = let m = c .before in ready (m .before) 77 (m .match .keys6) λ z. omega arith
+read-copy-requires-3 : tie.Need-read-copy-requires-3
+read-copy-requires-3 c κs = let m = c .before in ready (m .before) 77 (m .match .keys6) λ z. omega arith
 
 add-read-change : tie.Need-add-read-change
 add-read-change c = omega (arith, next-small (c .before))
@@ -126,34 +127,34 @@ returns-3 c =
     lined (m .before) 66 (m .match .keys3) (λ z. omega arith) (r .read-block .ensures)
 
 same-length-4 : tie.Need-same-length-4
-same-length-4 c = c .before .before .read-spill .ensures .same-length
+same-length-4 c = c .before .before .read-copy .ensures .same-length
 
 returns-4 : tie.Need-returns-4
-unfolding by-letter
+unfolding by-letter copy-step
 returns-4 c =
     let r = c .before .before in
     let m = r .before .before in
-    lined (m .before) 83 (m .match .keys4) (λ z. omega arith) (r .read-spill .ensures)
+    lined (m .before) 83 (m .match .keys4) (λ z. omega arith) (r .read-copy .ensures)
 
 same-length-5 : tie.Need-same-length-5
-same-length-5 c = c .before .before .read-reload .ensures .same-length
+same-length-5 c = c .before .before .read-copy2 .ensures .same-length
 
 returns-5 : tie.Need-returns-5
-unfolding by-letter
+unfolding by-letter copy-step
 returns-5 c =
     let r = c .before .before in
     let m = r .before .before in
-    lined (m .before) 76 (m .match .keys5) (λ z. omega arith) (r .read-reload .ensures)
+    lined (m .before) 76 (m .match .keys5) (λ z. omega arith) (r .read-copy2 .ensures)
 
 same-length-6 : tie.Need-same-length-6
-same-length-6 c = c .before .before .read-move .ensures .same-length
+same-length-6 c = c .before .before .read-copy3 .ensures .same-length
 
 returns-6 : tie.Need-returns-6
-unfolding by-letter
+unfolding by-letter copy-step
 returns-6 c =
     let r = c .before .before in
     let m = r .before .before in
-    lined (m .before) 77 (m .match .keys6) (λ z. omega arith) (r .read-move .ensures)
+    lined (m .before) 77 (m .match .keys6) (λ z. omega arith) (r .read-copy3 .ensures)
 
 same-length-7 : tie.Need-same-length-7
 same-length-7 c = c .before .before .read-change .ensures .same-length
@@ -206,12 +207,12 @@ read-line-spec =
     read-typed-requires
     add-read-block
     read-block-requires
-    add-read-spill
-    read-spill-requires
-    add-read-reload
-    read-reload-requires
-    add-read-move
-    read-move-requires
+    add-read-copy
+    read-copy-requires
+    add-read-copy-2
+    read-copy-requires-2
+    add-read-copy-3
+    read-copy-requires-3
     add-read-change
     read-change-requires
     add-read-operation

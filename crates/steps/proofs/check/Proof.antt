@@ -1,31 +1,24 @@
 -- `check` meets its contract: for `C`, `O` and `P` a law says which fault an error on packed words stands for, the cells that are
 -- read being below the counts; `S`, `L` and `M` have no check (`quiet`).
 use mathlib.Core.Option.{none}
-use mathlib.Core.List.{List, [], _∷_}
 use mathlib.Core.Path.{_≡_, refl}
 use Prim.Native.Nat.{ℕ}
 use native.Mathlib.Omega.{arith}
 use borrow.Author.Needs.{needs}
-use types.Run.{OneOf, miss}
-use denote.Enum.Declared.{tagOf}
-use Rattle.loaded.specs.declared.Action.the-variants.{Spill, Reload, Move, Change, Operation, Safepoint}
-use Rattle.loaded.specs.declared.Action.{Action}
+use Rattle.loaded.specs.declared.CopyKind.the-variants.{Spill, Reload, Move}
+use Rattle.loaded.specs.declared.CopyKind.{CopyKind}
 use Rattle.steps.specs.Faults.{fault-of}
-use Rattle.loaded.specs.Actions.{step-of}
+use Rattle.loaded.specs.Actions.{copy-step, step-of}
 use Rattle.steps.proofs.LawsChecks.{change-means-in, uses-mean, slots-mean}
-use Rattle.loaded.proofs.Action.{the-type}
 use Rattle.steps.proofs.check.Statement.{statement}
 use Rattle.paper.specs.Steps as paper
 use Rattle.steps.proofs.check.Tie as tie
 
-quiet : (words : List ℕ) (a : Action) (S : paper.State) → OneOf (0 ∷ 1 ∷ 2 ∷ []) (tagOf the-type a) → none ≡ paper.check (step-of words a) S
-unfolding paper.check step-of
-quiet words (Spill k r) S h = refl
-quiet words (Reload r k) S h = refl
-quiet words (Move into from) S h = refl
-quiet words (Change inst k from to) S h = absurd (miss (0 ∷ 1 ∷ 2 ∷ []) 3 tt h)
-quiet words (Operation inst at n m) S h = absurd (miss (0 ∷ 1 ∷ 2 ∷ []) 4 tt h)
-quiet words (Safepoint inst mask) S h = absurd (miss (0 ∷ 1 ∷ 2 ∷ []) 5 tt h)
+quiet : (kind : CopyKind) (into from : ℕ) (S : paper.State) → none ≡ paper.check (copy-step kind into from) S
+unfolding paper.check copy-step
+quiet Spill into from S = refl
+quiet Reload into from S = refl
+quiet Move into from S = refl
 
 enum-known-action : tie.Need-enum-known-action
 enum-known-action c = search needs
@@ -63,6 +56,9 @@ index-1-check-stackmap c = search needs
 check-stackmap-requires : tie.Need-check-stackmap-requires
 check-stackmap-requires c κs = search needs
 
+enum-told : tie.Need-enum-told
+enum-told c = search needs
+
 returns : tie.Need-returns
 unfolding step-of paper.check
 returns c =
@@ -89,8 +85,8 @@ returns-3 c =
     rw (a .action3 .given .1, c .check-stackmap .ensures) (slots-mean counts (s .args .t2) _ (rw (a .action3 .given .1) at h))
 
 returns-4 : tie.Need-returns-4
-unfolding fault-of
-returns-4 c = let s = c .before .before in λ counts h. quiet (s .args .words .now) (s .args .action) _ (c .match .keys4)
+unfolding fault-of step-of
+returns-4 c = λ counts h. rw (c .enum-told .given .1) (quiet _ _ _ _)
 
 pub check-spec : {M : Type 1} → statement M
 check-spec =
@@ -107,6 +103,7 @@ check-spec =
     enum-known-action-3
     index-1-check-stackmap
     check-stackmap-requires
+    enum-told
     returns
     returns-2
     returns-3

@@ -8,22 +8,23 @@ use borrow.Author.Needs.{needs}
 use types.Run.{OneOf, miss}
 use denote.Enum.Declared.{tagOf}
 use Rattle.paper.specs.Report.{missing-names}
-use Rattle.loaded.specs.declared.Action.the-variants.{Spill, Reload, Move, Change, Operation, Safepoint}
+use Rattle.loaded.specs.declared.Action.the-variants.{Copy, Change, Operation, Safepoint}
+use Rattle.loaded.specs.declared.CopyKind.the-variants.{Spill, Reload, Move}
 use Rattle.loaded.specs.declared.Action.{Action}
 use Rattle.steps.specs.Faults.{some-in}
-use Rattle.loaded.specs.Actions.{step-of}
+use Rattle.loaded.specs.Actions.{copy-step, step-of}
 use Rattle.steps.proofs.LawsMissing.{missing-first, missing-second}
 use Rattle.loaded.proofs.Action.{the-type}
 use Rattle.steps.proofs.missing.Statement.{statement}
 use Rattle.steps.proofs.missing.Tie as tie
 
-other : (words : List ℕ) (a : Action) → OneOf (0 ∷ 1 ∷ 2 ∷ 3 ∷ 5 ∷ []) (tagOf the-type a) → false ≡ some-in (missing-names (step-of words a))
-unfolding some-in missing-names step-of
-other words (Spill k r) h = refl
-other words (Reload r k) h = refl
-other words (Move into from) h = refl
+other : (words : List ℕ) (a : Action) → OneOf (0 ∷ 1 ∷ 3 ∷ []) (tagOf the-type a) → false ≡ some-in (missing-names (step-of words a))
+unfolding some-in missing-names step-of copy-step
+other words (Copy Spill k r) h = refl
+other words (Copy Reload r k) h = refl
+other words (Copy Move into from) h = refl
 other words (Change inst k from to) h = refl
-other words (Operation inst at n m) h = absurd (miss (0 ∷ 1 ∷ 2 ∷ 3 ∷ 5 ∷ []) 4 tt h)
+other words (Operation inst at n m) h = absurd (miss (0 ∷ 1 ∷ 3 ∷ []) 2 tt h)
 other words (Safepoint inst mask) h = refl
 
 enum-known-action : tie.Need-enum-known-action

@@ -5,48 +5,43 @@ use mathlib.Core.Path.{_∙_}
 use native.Mathlib.Omega.{arith}
 use borrow.Author.Needs.{needs}
 use Rattle.loaded.specs.Actions.{step-of}
-use Rattle.steps.proofs.LawsEffects.{spill-effect, reload-effect, move-effect, safepoint-effect, operation-effect}
+use Rattle.steps.proofs.LawsEffects.{copy-room, copy-effect, safepoint-effect, operation-effect}
 use Rattle.steps.proofs.update.Statement.{statement}
 use Rattle.steps.proofs.update.Tie as tie
 
 enum-known-action : tie.Need-enum-known-action
 enum-known-action c = search needs
 
+rows-of-requires : tie.Need-rows-of-requires
+rows-of-requires c κs = search needs
+
 copy-requires : tie.Need-copy-requires
-copy-requires c κs = let s = c .before .before .before .before .before in omega (arith, s, rw (c .before .before .action .given .1) at (s .pre))
+copy-requires c κs =
+    let o = c .before in
+    let a = o .before .before in
+    let r = rw (a .action .given .1) at (a .before .before .before .pre) in
+    copy-room _ _ _ (o .rows-of .ensures) (r .0) (r .1)
 
 enum-known-action-2 : tie.Need-enum-known-action-2
 enum-known-action-2 c = search needs
 
-copy-requires-2 : tie.Need-copy-requires-2
-copy-requires-2 c κs = let s = c .before .before .before .before .before in omega (arith, s, rw (c .before .before .action2 .given .1) at (s .pre))
+change-requires : tie.Need-change-requires
+change-requires c κs = let s = c .before .before .before .before .before in rw (c .before .before .action2 .given .1) at (s .pre)
 
 enum-known-action-3 : tie.Need-enum-known-action-3
 enum-known-action-3 c = search needs
 
-copy-requires-3 : tie.Need-copy-requires-3
-copy-requires-3 c κs = let s = c .before .before .before .before .before in omega (arith, s, rw (c .before .before .action3 .given .1) at (s .pre))
-
-enum-known-action-4 : tie.Need-enum-known-action-4
-enum-known-action-4 c = search needs
-
-change-requires : tie.Need-change-requires
-change-requires c κs = let s = c .before .before .before .before .before in rw (c .before .before .action4 .given .1) at (s .pre)
-
-enum-known-action-5 : tie.Need-enum-known-action-5
-enum-known-action-5 c = search needs
-
 add-define-all : tie.Need-add-define-all
-add-define-all c = let s = c .before .before .before .before in omega (arith, rw (c .before .action5 .given .1) at (s .pre))
+add-define-all c = let s = c .before .before .before .before in omega (arith, rw (c .before .action3 .given .1) at (s .pre))
 
 define-all-requires : tie.Need-define-all-requires
 define-all-requires c κs =
     let s = c .before .before .before .before .before in
-    let r = rw (c .before .before .action5 .given .1) at (s .pre) in
+    let r = rw (c .before .before .action3 .given .1) at (s .pre) in
     (omega arith, r .4)
 
-enum-known-action-6 : tie.Need-enum-known-action-6
-enum-known-action-6 c = search needs
+enum-known-action-4 : tie.Need-enum-known-action-4
+enum-known-action-4 c = search needs
 
 update-stackmap-requires : tie.Need-update-stackmap-requires
 update-stackmap-requires c κs = search needs
@@ -54,60 +49,45 @@ update-stackmap-requires c κs = search needs
 returns : tie.Need-returns
 unfolding step-of
 returns c counts fit w ref h =
-    let a = c .before .before .before in
-    rw (a .action .given .1) (c .copy .ensures counts ((rw (a .action .given .1) at w) .1) ∙ spill-effect _ ref _ _ _)
+    let o = c .before .before in
+    let a = o .before .before in
+    let r = rw (a .action .given .1) at w in
+    rw (a .action .given .1) (c .copy .ensures counts (rw (← o .rows-of .ensures) at (r .1)) ∙ copy-effect _ ref _ _ _ _ (o .rows-of .ensures))
 
 returns-2 : tie.Need-returns-2
 unfolding step-of
 returns-2 c counts fit w ref h =
     let a = c .before .before .before in
-    rw (a .action2 .given .1) (c .copy2 .ensures counts ((rw (a .action2 .given .1) at w) .1) ∙ reload-effect _ ref _ _ _)
+    rw (a .action2 .given .1) (c .change .ensures counts fit (rw (a .action2 .given .1) at w) ref _)
 
 returns-3 : tie.Need-returns-3
 unfolding step-of
 returns-3 c counts fit w ref h =
     let a = c .before .before .before in
-    rw (a .action3 .given .1) (c .copy3 .ensures counts ((rw (a .action3 .given .1) at w) .1) ∙ move-effect _ ref _ _ _)
+    let r = rw (a .action3 .given .1) at w in
+    rw (a .action3 .given .1) (c .define-all .ensures counts fit ∙ operation-effect _ ref _ _ _ _ _ _ (omega arith) (rw (a .action3 .given .1) at h))
 
 returns-4 : tie.Need-returns-4
 unfolding step-of
 returns-4 c counts fit w ref h =
     let a = c .before .before .before in
-    rw (a .action4 .given .1) (c .change .ensures counts fit (rw (a .action4 .given .1) at w) ref _)
-
-returns-5 : tie.Need-returns-5
-unfolding step-of
-returns-5 c counts fit w ref h =
-    let a = c .before .before .before in
-    let r = rw (a .action5 .given .1) at w in
-    rw (a .action5 .given .1) (c .define-all .ensures counts fit ∙ operation-effect _ ref _ _ _ _ _ _ (omega arith) (rw (a .action5 .given .1) at h))
-
-returns-6 : tie.Need-returns-6
-unfolding step-of
-returns-6 c counts fit w ref h =
-    let a = c .before .before .before in
-    rw (a .action6 .given .1) (c .update-stackmap .ensures counts fit ∙ safepoint-effect _ ref _ _ _)
+    rw (a .action4 .given .1) (c .update-stackmap .ensures counts fit ∙ safepoint-effect _ ref _ _ _)
 
 pub update-spec : {M : Type 1} → statement M
 update-spec =
     tie.close
     (tie.spec
     enum-known-action
+    rows-of-requires
     copy-requires
     enum-known-action-2
-    copy-requires-2
-    enum-known-action-3
-    copy-requires-3
-    enum-known-action-4
     change-requires
-    enum-known-action-5
+    enum-known-action-3
     add-define-all
     define-all-requires
-    enum-known-action-6
+    enum-known-action-4
     update-stackmap-requires
     returns
     returns-2
     returns-3
-    returns-4
-    returns-5
-    returns-6)
+    returns-4)
