@@ -21,8 +21,8 @@ use Rattle.paper.specs.Text.{Name, real}
 use Rattle.paper.specs.Sheet.{Sheet, listed}
 use Rattle.paper.specs.Cells.{Cell, absent, named}
 use Rattle.paper.specs.Cells as paper
-use Rattle.paper.specs.Steps.{cell-at, store-at, everywhere, placed, safepoint-row, row-of, unfilled, entry-state, unreached-state, counts-of, unfilled-rows, entry-rows}
-use Rattle.paper.specs.Runs.{both, meet-states}
+use Rattle.paper.specs.Steps.{cell-at, store-at, everywhere, by-place, safepoint-row, row-of, unfilled, entry-state, unreached-state, counts-of, unfilled-rows, entry-rows}
+use Rattle.paper.specs.Runs.{pointwise, meet-states}
 use Rattle.paper.specs.declared.Rule.{Rule}
 use Rattle.paper.specs.declared.Rule.the-variants.{Old, House}
 use Rattle.cells.specs.Packed.{name-of-word, marked, of-kind, cell-of}
@@ -47,24 +47,24 @@ module _ {i : ℕ} {f : ℕ → Cell → Cell} {row₀ row : List ℕ} (r : Reac
         ∙ any-step i f (map cell-of row₀) absent (map cell-of row) (cell-of v) (r .cells) (e ∙ ap (f i) (sym (cell-in row i)));
   }
 
-pub placed-over : {A : Type 0} (n : ℕ) (f : ℕ → A → A) (l : List A) → length l ≤ n → over 0 n f l ≡ placed f l
-unfolding over placed
+pub placed-over : {A : Type 0} (n : ℕ) (f : ℕ → A → A) (l : List A) → length l ≤ n → over 0 n f l ≡ by-place f l
+unfolding over by-place
 placed-over n f [] h = refl
 placed-over zero f (x ∷ l) h = absurd (omega arith)
 placed-over (suc n) f (x ∷ l) h = ap (λ t. f 0 x ∷ t) (placed-over n (λ k. f (suc k)) l (omega arith))
 
-pub placed-all : {A : Type 0} (f : A → A) (l : List A) → placed (λ k. f) l ≡ map f l
-unfolding placed
+pub placed-all : {A : Type 0} (f : A → A) (l : List A) → by-place (λ k. f) l ≡ map f l
+unfolding by-place
 placed-all f [] = refl
 placed-all f (x ∷ l) = ap (λ t. f x ∷ t) (placed-all f l)
 
 -- the loop's end, for as many of its cells as count
-pub cells-done : {m : ℕ} {f : ℕ → Cell → Cell} {row₀ row : List ℕ} → Reached m f row₀ row → (n : ℕ) → n ≤ m → cells-of n row ≡ placed f (cells-of n row₀)
+pub cells-done : {m : ℕ} {f : ℕ → Cell → Cell} {row₀ row : List ℕ} → Reached m f row₀ row → (n : ℕ) → n ≤ m → cells-of n row ≡ by-place f (cells-of n row₀)
 unfolding cells-of
 cells-done {m} {f} {row₀} {row} r n h =
     map-take cell-of n row ∙ ap (take n) (r .cells) ∙ take-over n m f (map cell-of row₀) h
     ∙ placed-over n f (take n (map cell-of row₀)) (simp length-take (omega arith))
-    ∙ ap (placed f) (sym (map-take cell-of n row₀))
+    ∙ ap (by-place f) (sym (map-take cell-of n row₀))
 
 -- the bits of a mask, listed
 pub unlisted : (l : List ℕ) (n : ℕ) → All (λ b. n < b) l → listed l n ≡ false
@@ -101,7 +101,7 @@ module _ (m j : ℕ) (h : j < 32) {A : Type 0} (x y : A) where
   pub bit-set : (m / 2 ^ j % 2 ≡ 0 → ⊥) → x ≡ cond (listed (set-bits m) j) x y
   bit-set d = let e : m / 2 ^ j % 2 ≡ 1 = omega arith in rw (listed-bit m j h, e)
 
-pub none-listed : (f : Cell → Cell) (l : List Cell) → placed (λ i c. cond (listed (set-bits 0) i) c (f c)) l ≡ map f l
+pub none-listed : (f : Cell → Cell) (l : List Cell) → by-place (λ i c. cond (listed (set-bits 0) i) c (f c)) l ≡ map f l
 unfolding listed
 none-listed f l = rw no-bits (placed-all f l)
 
@@ -120,8 +120,8 @@ filled-front at m l row₀ row e hr hl n h =
     ap (take n) e ∙ take-over n m (λ k x. getD l (at + k) 0) row₀ h ∙ filled at n l (take n row₀) (simp length-take (omega arith)) (omega arith)
 
 -- a row met into words, cell by cell
-pub met-over : (rule : Rule) (n : ℕ) (row l : List ℕ) → length l ≡ n → n ≤ length row → map cell-of (over 0 n (meet-at rule row) l) ≡ both (paper.meet rule) (map cell-of l) (cells-of n row)
-unfolding over both cells-of
+pub met-over : (rule : Rule) (n : ℕ) (row l : List ℕ) → length l ≡ n → n ≤ length row → map cell-of (over 0 n (meet-at rule row) l) ≡ pointwise (paper.meet rule) (map cell-of l) (cells-of n row)
+unfolding over pointwise cells-of
 met-over rule zero row [] e h = refl
 met-over rule zero row (x ∷ l) e h = absurd (omega arith)
 met-over rule (suc n) row [] e h = absurd (omega arith)
@@ -225,8 +225,8 @@ pub own-cell : (i : ℕ) → i < 32 → cell-of (3328 + i) ≡ named (real i) fa
 unfolding marked
 own-cell i h = made (3328 + i) (3328 + i) 0 (omega arith) refl (omega arith) ∙ ap (λ (n : Name). named n false) (own-name i h)
 
-placed-row : (f : ℕ → Cell) (l : List Cell) → placed (λ k c. f k) l ≡ row-of (length l) f
-unfolding placed row-of
+placed-row : (f : ℕ → Cell) (l : List Cell) → by-place (λ k c. f k) l ≡ row-of (length l) f
+unfolding by-place row-of
 placed-row f [] = refl
 placed-row f (x ∷ l) = ap (λ t. f 0 ∷ t) (placed-row (λ k. f (suc k)) l)
 

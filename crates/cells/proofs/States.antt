@@ -16,8 +16,8 @@ use Rattle.paper.specs.Text.{real}
 use Rattle.paper.specs.Sheet.{listed}
 use Rattle.paper.specs.Cells.{Cell, named}
 use Rattle.paper.specs.Cells as paper
-use Rattle.paper.specs.Steps.{State, total, row-of, unfilled, unfilled-rows, entry-rows, everywhere, placed, safepoint-row}
-use Rattle.paper.specs.Runs.{both, meet-states}
+use Rattle.paper.specs.Steps.{State, total, row-of, unfilled, unfilled-rows, entry-rows, everywhere, by-place, safepoint-row}
+use Rattle.paper.specs.Runs.{pointwise, meet-states}
 use Rattle.paper.specs.declared.Rule.{Rule}
 use Rattle.layout.specs.Layout.{row-words, row-widths, state-words}
 use Rattle.cells.specs.Packed.{cell-of}
@@ -58,7 +58,7 @@ length-state (width ∷ widths) (n ∷ counts) (x ∷ s) h = let l = length-stat
 
 -- all rows
 pub rows-done : {counts : List ℕ} {f : ℕ → List Cell → List Cell} {s₀ s : List (List ℕ)} → RowsFit counts
-    → RowsReached counts (length row-widths) f s₀ s → state-of counts s ≡ placed f (state-of counts s₀)
+    → RowsReached counts (length row-widths) f s₀ s → state-of counts s ≡ by-place f (state-of counts s₀)
 rows-done {counts} {f} {s₀} fit r = r .rows ∙ placed-over (length row-widths) f (state-of counts s₀) (length-state row-widths counts s₀ fit)
 
 pub every-row : {counts : List ℕ} {f : Cell → Cell} {s₀ s : List (List ℕ)} → RowsFit counts
@@ -67,11 +67,11 @@ unfolding everywhere
 every-row {counts} {f} {s₀} fit r = rows-done fit r ∙ placed-all (map f) (state-of counts s₀)
 
 -- a safepoint lists slots alone
-pub registers-collected : (rule : Rule) (slots : List ℕ) (row : List Cell) → placed (λ i c. cond (listed (set-bits 0) i) c (paper.collected rule c)) row ≡ safepoint-row rule slots 0 row
+pub registers-collected : (rule : Rule) (slots : List ℕ) (row : List Cell) → by-place (λ i c. cond (listed (set-bits 0) i) c (paper.collected rule c)) row ≡ safepoint-row rule slots 0 row
 unfolding safepoint-row
 registers-collected rule slots row = none-listed (paper.collected rule) row
 
-pub slots-collected : (rule : Rule) (slots : List ℕ) (row : List Cell) → placed (λ i c. cond (listed slots i) c (paper.collected rule c)) row ≡ safepoint-row rule slots 1 row
+pub slots-collected : (rule : Rule) (slots : List ℕ) (row : List Cell) → by-place (λ i c. cond (listed slots i) c (paper.collected rule c)) row ≡ safepoint-row rule slots 1 row
 unfolding safepoint-row
 slots-collected rule slots row = refl
 
@@ -158,8 +158,8 @@ module _ {f : List ℕ → ℕ → ℕ → ℕ} where
       (means : (n : ℕ) (row l : List ℕ) → length l ≡ n → n ≤ length row → map cell-of (over 0 n (f row) l) ≡ g (map cell-of l) (cells-of n row)) where
     pub rows-mean : {widths counts : List ℕ} {at : ℕ} {rows : List (List ℕ)} {l l₂ : List ℕ} → RowsOver f widths counts at rows l l₂
         → Narrow widths counts → at + total widths ≤ length l
-        → state-of counts (rows-at widths at l₂) ≡ both g (state-of counts (rows-at widths at l)) (state-of counts rows)
-    unfolding state-of rows-at both total cells-of region
+        → state-of counts (rows-at widths at l₂) ≡ pointwise g (state-of counts (rows-at widths at l)) (state-of counts rows)
+    unfolding state-of rows-at pointwise total cells-of region
     rows-mean no-row h room = refl
     rows-mean (row-then {width} {n} {at} {widths} {counts} {row} {l} {l₁} {l₂} {rows} q b e o) h room =
         let k₁ : Kept at n l l₁ = row-kept at n (f row) l l₁ e in
@@ -167,12 +167,12 @@ module _ {f : List ℕ → ℕ → ℕ → ℕ} where
         let rest : state-of counts (rows-at widths (at + width) l₁) ≡ state-of counts (rows-at widths (at + width) l) = rows-stay-behind width n at widths counts l l₁ q k₁ (h .1) (omega arith) in
         ap₂ (λ (a : List Cell) (t : State). a ∷ t)
         (ap (map cell-of) first ∙ means n row (region at n l) (length-region at n l (omega arith)) b)
-        (rows-mean o (h .1) (omega (arith, k₁ .same-length)) ∙ ap (λ (t : State). both g t (state-of counts rows)) rest)
+        (rows-mean o (h .1) (omega (arith, k₁ .same-length)) ∙ ap (λ (t : State). pointwise g t (state-of counts rows)) rest)
 
 -- a state written
 pub stored : (counts : List ℕ) (at : ℕ) (s : List (List ℕ)) (l l₂ : List ℕ) → RowsFit counts → at + state-words ≤ length l
     → RowsOver (λ row k w. getD row k 0) row-widths counts at s l l₂ → Stored counts at s l l₂
-unfolding stored-state total cells-of state-of rows-at both
+unfolding stored-state total cells-of state-of rows-at pointwise
 stored counts at s l l₂ fit room o = record {
   meaning = rows-mean (λ old new. new) copies o fit room ∙ written o l;
   kept = rows-kept o;
@@ -182,7 +182,7 @@ stored counts at s l l₂ fit room o = record {
     copies n row m e h = ap (map cell-of) (copied-over n row m 0 e h)
 
     written : {widths counts : List ℕ} {at : ℕ} {rows : List (List ℕ)} {l l₂ : List ℕ} → RowsOver (λ row k w. getD row k 0) widths counts at rows l l₂ → (m : List ℕ)
-        → both (λ old new. new) (state-of counts (rows-at widths at m)) (state-of counts rows) ≡ state-of counts rows
+        → pointwise (λ old new. new) (state-of counts (rows-at widths at m)) (state-of counts rows) ≡ state-of counts rows
     written no-row m = refl
     written (row-then {n = n} {row = row} q b e o) m = ap (λ (t : State). cells-of n row ∷ t) (written o m)
 
@@ -218,7 +218,7 @@ pub met-with : {rule : Rule} {counts : List ℕ} {at : ℕ} {s : List (List ℕ)
     → (o : RowsOver (meet-at rule) row-widths counts at s l l₂) → changed ≡ moves o → MetWith rule counts at s l l₂ changed
 unfolding stored-state total meet-states
 met-with {rule} {counts} {at} {s} {l} {l₂} fit room o c =
-    let meaning : stored-state counts at l₂ ≡ meet-states rule (stored-state counts at l) (state-of counts s) = rows-mean (both (paper.meet rule)) (met-over rule) o fit room in
+    let meaning : stored-state counts at l₂ ≡ meet-states rule (stored-state counts at l) (state-of counts s) = rows-mean (pointwise (paper.meet rule)) (met-over rule) o fit room in
     record {
       meaning = meaning;
       kept = rows-kept o;

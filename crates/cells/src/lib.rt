@@ -1,5 +1,5 @@
-// Packed cells, their meet by a table, and a state of two rows of cells, by value or changed in place. A cell is a u16: its name in the nine low bits
-// (virtual v is v, real r is 256 + r), its mark at 512, and its kind at 1024 (absent 0, unknown 1, conflicted 2, named 3).
+// Packed cells, their meet by a table, and a state of two rows of cells, by value or changed in place. A cell is a u16: its name
+// (virtual v is v, real r is 256 + r), its mark and its kind (absent 0, unknown 1, conflicted 2, named 3).
 ghost use mathlib.Core.Path.{_≡_};
 ghost use mathlib.Core.Bool.{true, false, cond};
 ghost use mathlib.Core.List.{List, map};
@@ -12,7 +12,7 @@ ghost use Rattle.lists.specs.Bits.{set-bits};
 ghost use Rattle.paper.specs.Text.{real};
 ghost use Rattle.paper.specs.Sheet.{listed};
 ghost use Rattle.paper.specs.Cells as paper;
-ghost use Rattle.paper.specs.Steps.{cell-at, store-at, everywhere, placed, safepoint-row, row-of, entry-rows, unfilled-rows};
+ghost use Rattle.paper.specs.Steps.{cell-at, store-at, everywhere, by-place, safepoint-row, row-of, entry-rows, unfilled-rows};
 ghost use Rattle.paper.specs.Limits.{max-regs};
 ghost use Rattle.layout.specs.Layout.{row-words, state-words};
 ghost use Rattle.cells.specs.Packed.{name-of-word, marked, cell-of};
@@ -20,6 +20,29 @@ ghost use Rattle.cells.specs.Meeting.{rule-index, meet-table, meet-word}
 ghost use Rattle.cells.specs.States.{Stays, cells-of, state-of, stored-state, changes, meet-at, MetWith, Stored, RowsFit, row-counts};
 use layout::ROW_WORDS;
 use paper::Rule;
+
+// The parts of a packed cell: the name stands below MARK, real names from REAL_NAMES on; the mark at MARK; the kind at KIND.
+pub const REAL_NAMES: u16 = 256;
+
+pub const MARK: u16 = 512;
+
+pub const KIND: u16 = 1024;
+
+pub const KINDS: u16 = 4;
+
+pub const ABSENT_KIND: u16 = 0;
+
+pub const NAMED_KIND: u16 = 3;
+
+// The cells without a name, and a named cell's kind.
+pub const UNKNOWN: u16 = 1024;
+
+pub const CONFLICTED: u16 = 2048;
+
+pub const NAMED: u16 = 3072;
+
+// The named cell of real name 0, which the others follow.
+const REAL_CELLS: u16 = NAMED + REAL_NAMES;
 
 pub type State = [[u16; ROW_WORDS]; 2];
 
@@ -58,8 +81,8 @@ fn meet(table: &[[[u8; 4]; 4]; 2], rule: Rule, a: u16, b: u16) -> u16
     ensures { λ r. ⌜ (r ≡ meet-word rule a b) × (cell-of r ≡ paper.meet rule (cell-of a) (cell-of b)) ⌝ }
 {
     let k = rule_index(rule);
-    let left = (a / 1024 % 4) as usize;
-    let right = (b / 1024 % 4) as usize;
+    let left = (a / KIND % KINDS) as usize;
+    let right = (b / KIND % KINDS) as usize;
     let side = table[k][left][right];
     if side == 0 {
         return a;
@@ -67,28 +90,36 @@ fn meet(table: &[[[u8; 4]; 4]; 2], rule: Rule, a: u16, b: u16) -> u16
     if side == 1 {
         return b;
     }
-    if a % 512 != b % 512 {
-        return 2048;
+    if a % MARK != b % MARK {
+        return CONFLICTED;
     }
-    if a / 512 % 2 == 1 {
+    if a / MARK % 2 == 1 {
         return a;
     }
-    if b / 512 % 2 == 1 { b } else { a }
+    if b / MARK % 2 == 1 { b } else { a }
 }
 
 // A cell as a copy has it: Absent becomes Unknown.
 fn copied(w: u16) -> u16
     ensures { λ r. ⌜ cell-of r ≡ paper.copied (cell-of w) ⌝ }
 {
-    if w / 1024 % 4 == 0 { 1024 } else { w }
+    if w / KIND % KINDS == ABSENT_KIND {
+        UNKNOWN
+    } else {
+        w
+    }
 }
 
 // A cell after the name was written elsewhere.
 fn overwritten(name: u16, w: u16) -> u16
     ensures { λ r. ⌜ cell-of r ≡ paper.overwritten (name-of-word name) (cell-of w) ⌝ }
 {
-    if w / 1024 % 4 == 3 {
-        if w % 512 == name % 512 { 2048 } else { w }
+    if w / KIND % KINDS == NAMED_KIND {
+        if w % MARK == name % MARK {
+            CONFLICTED
+        } else {
+            w
+        }
     } else {
         w
     }
@@ -117,17 +148,17 @@ pub fn overwrite(s: &mut State, name: u16)
 fn renamed(to: u16, w: u16) -> u16
     ensures { λ r. ⌜ cell-of r ≡ paper.named (name-of-word to) (marked w) ⌝ }
 {
-    3072 + w / 512 % 2 * 512 + to % 512
+    NAMED + w / MARK % 2 * MARK + to % MARK
 }
 
 // The slot of an ownership change, under the old rule.
 pub fn old_changed(to: u16, w: u16) -> u16
     ensures { λ r. ⌜ cell-of r ≡ paper.old-changed (name-of-word to) (cell-of w) ⌝ }
 {
-    if w / 1024 % 4 == 3 {
+    if w / KIND % KINDS == NAMED_KIND {
         renamed(to, w)
     } else {
-        3072 + to % 512
+        NAMED + to % MARK
     }
 }
 
@@ -135,13 +166,13 @@ pub fn old_changed(to: u16, w: u16) -> u16
 pub fn house_changed(from: u16, to: u16, w: u16) -> u16
     ensures { λ r. ⌜ cell-of r ≡ paper.house-changed (name-of-word from) (name-of-word to) (cell-of w) ⌝ }
 {
-    if w / 1024 % 4 != 3 {
+    if w / KIND % KINDS != NAMED_KIND {
         return w;
     }
-    if w % 512 == from % 512 {
+    if w % MARK == from % MARK {
         renamed(to, w)
     } else {
-        2048
+        CONFLICTED
     }
 }
 
@@ -149,15 +180,15 @@ pub fn house_changed(from: u16, to: u16, w: u16) -> u16
 fn collected(rule: Rule, w: u16) -> u16
     ensures { λ r. ⌜ cell-of r ≡ paper.collected rule (cell-of w) ⌝ }
 {
-    if w / 1024 % 4 != 3 {
+    if w / KIND % KINDS != NAMED_KIND {
         return w;
     }
-    if w / 512 % 2 == 0 {
+    if w / MARK % 2 == 0 {
         return w;
     }
     match rule {
-        Rule::Old => 1024,
-        Rule::House => 2048,
+        Rule::Old => UNKNOWN,
+        Rule::House => CONFLICTED,
     }
 }
 
@@ -175,7 +206,7 @@ fn safepoint_cell(rule: Rule, kept: u32, i: usize, w: u16) -> u16
 
 // A row at a safepoint, also its cells that do not count; bit i of `kept` is set where cell i keeps its name.
 fn collect_row(rule: Rule, row: &mut [u16; ROW_WORDS], kept: u32)
-    ensures { λ r. ⌜ ((n : ℕ) → n ≤ row-words → cells-of n (now (row .exit)) ≡ placed (λ i c. cond (listed (set-bits kept) i) c (paper.collected rule c)) (cells-of n (now (row .entry)))) ⌝ }
+    ensures { λ r. ⌜ ((n : ℕ) → n ≤ row-words → cells-of n (now (row .exit)) ≡ by-place (λ i c. cond (listed (set-bits kept) i) c (paper.collected rule c)) (cells-of n (now (row .entry)))) ⌝ }
 {
     let mut i = 0;
     while i < ROW_WORDS {
@@ -186,7 +217,7 @@ fn collect_row(rule: Rule, row: &mut [u16; ROW_WORDS], kept: u32)
 
 // The state behind a safepoint that lists the slots of a mask.
 pub fn update_stackmap(rule: Rule, s: &mut State, mask: u32)
-    ensures { λ r. ⌜ ((counts : List ℕ) → RowsFit counts → state-of counts (now (s .exit)) ≡ placed (safepoint-row rule (set-bits mask)) (state-of counts (now (s .entry)))) ⌝ }
+    ensures { λ r. ⌜ ((counts : List ℕ) → RowsFit counts → state-of counts (now (s .exit)) ≡ by-place (safepoint-row rule (set-bits mask)) (state-of counts (now (s .entry)))) ⌝ }
 {
     collect_row(rule, &mut s[0], 0);
     collect_row(rule, &mut s[1], mask);
@@ -210,16 +241,16 @@ fn stays(rule: Rule, a: u16, b: u16) -> bool
     }
     match rule {
         Rule::Old => {
-            if a == 2048 {
+            if a == CONFLICTED {
                 return true;
             }
             b == 0
         }
         Rule::House => {
-            if b / 1024 % 4 == 0 {
+            if b / KIND % KINDS == ABSENT_KIND {
                 return false;
             }
-            a == 1024
+            a == UNKNOWN
         }
     }
 }
@@ -376,7 +407,7 @@ fn real_row(n: usize) -> [u16; ROW_WORDS]
     let mut row = [0u16; ROW_WORDS];
     let mut i = 0;
     while i < n {
-        row[i] = 3328 + i as u16;
+        row[i] = REAL_CELLS + i as u16;
         i += 1;
     }
     row

@@ -23,6 +23,7 @@ use layout::STATE_BASE;
 use layout::STATE_WORDS;
 use loaded::Action;
 use loaded::NO_REGISTER;
+use loaded::REGISTER;
 use paper::Answer;
 use paper::Rule;
 use report::FaultFields;
@@ -129,7 +130,7 @@ fn count_missing(words: &[u16], from: usize, n: usize) -> usize
     let mut count = 0;
     let mut i = 0;
     while i < n {
-        if words[from + i] / 1024 == NO_REGISTER {
+        if words[from + i] / REGISTER == NO_REGISTER {
             count += 1;
         }
         i += 1;
@@ -142,7 +143,7 @@ fn write_operand(report: &mut [u8], at: usize, position: Position, operand: u16)
     requires { ⌜ PositionWithin position × (at + longest-fault-line ≤ length (now report)) ⌝ }
     ensures { λ r. ⌜ Wrote (now (report .entry)) at (lines-text (names-at position (unallocated (operand-of operand ∷ [])))) (now (report .exit)) r × (r ≤ at + longest-fault-line) ⌝ }
 {
-    if operand / 1024 != NO_REGISTER {
+    if operand / REGISTER != NO_REGISTER {
         return at;
     }
     let fault = fault_fields(1, Field::Nothing, Field::Named(operand), Field::Nothing);

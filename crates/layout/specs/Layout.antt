@@ -29,8 +29,8 @@ abbrev pub steps-word : ℕ
 steps-word = 6
 
 -- the least number that the next `T` may have, and whether the `F` has been read
-abbrev pub least-word : ℕ
-least-word = 7
+abbrev pub least-typed-word : ℕ
+least-typed-word = 7
 
 abbrev pub begun-word : ℕ
 begun-word = 8

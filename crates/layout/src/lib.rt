@@ -59,7 +59,7 @@ pub const OPENED_WORD: usize = 5;
 pub const STEPS_WORD: usize = 6;
 
 // The least number that the next `T` may have.
-pub const LEAST_WORD: usize = 7;
+pub const LEAST_TYPED_WORD: usize = 7;
 
 // 1 where the `F` has been read.
 pub const BEGUN_WORD: usize = 8;

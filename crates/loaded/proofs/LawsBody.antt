@@ -13,7 +13,7 @@ use Rattle.lists.specs.Split.{by-order}
 use Rattle.paper.specs.Sheet.{Block, Sheet}
 use Rattle.paper.specs.Limits.{max-blocks, max-succs, max-steps}
 use Rattle.paper.specs.Refusals.{block-record, step-record, add-record, add-step, step-count, ascending}
-use Rattle.layout.specs.Layout.{regs-word, slots-word, vregs-word, blocks-word, entry-word, opened-word, steps-word, least-word, begun-word, typed-base, typed-words, block-base, block-words, succ-base, step-base, step-words, operand-base, all-words}
+use Rattle.layout.specs.Layout.{regs-word, slots-word, vregs-word, blocks-word, entry-word, opened-word, steps-word, least-typed-word, begun-word, typed-base, typed-words, block-base, block-words, succ-base, step-base, step-words, operand-base, all-words}
 use Rattle.loaded.specs.Filling.{BlockWithin, Begun, Fits, Stored}
 use Rattle.loaded.specs.Actions.{step-of, action-at, steps-at}
 use Rattle.loaded.specs.declared.Action.{Action}
@@ -60,9 +60,9 @@ module _ {l m : List ℕ} (begun : Begun l) (head : SameHead l m) (steps : SameS
       }
 
   -- what the next `T` is held against
-  pub least-after : (n : ℕ) → ascending (marked-from 0 (region typed-base typed-words m) ++ (n ∷ [])) ≡ leb (getD m least-word 0) n
+  pub least-after : (n : ℕ) → ascending (marked-from 0 (region typed-base typed-words m) ++ (n ∷ [])) ≡ leb (getD m least-typed-word 0) n
   least-after n =
-      rw (same-typed head (begun .bounds .size) (steps .operands .same-length), head .words least-word (omega arith) (λ e. omega arith) (λ e. omega arith))
+      rw (same-typed head (begun .bounds .size) (steps .operands .same-length), head .words least-typed-word (omega arith) (λ e. omega arith) (λ e. omega arith))
       (begun .least n)
 
   pub begun-after : getD m begun-word 0 ≡ 1

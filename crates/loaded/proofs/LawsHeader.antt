@@ -10,7 +10,7 @@ use lib.ListN.{length, getD, set, drop, length-set, length-drop}
 use lib.Seq.{sets, sets-eq, drop-drop, getD-set-same, getD-set-other, take-set-lt, drop-set-lt, drop-set-add}
 use Rattle.lists.specs.Region.{region, length-region}
 use Rattle.paper.specs.Refusals.{function-record, typed-record, add-record, ascending, step-count}
-use Rattle.layout.specs.Layout.{vregs-word, opened-word, steps-word, least-word, begun-word, typed-base, typed-words}
+use Rattle.layout.specs.Layout.{vregs-word, opened-word, steps-word, least-typed-word, begun-word, typed-base, typed-words}
 use Rattle.loaded.specs.Filling.{FunctionWithin, Blank, Begun, Stored}
 use Rattle.loaded.specs.Loaded.{blocks-at, marked-from, sheet-of, Bounds}
 use Rattle.loaded.specs.Typed.{none-typed, marks-more, ascending-more, ascending-one}
@@ -77,7 +77,7 @@ region-behind : (at n : ℕ) (l : List ℕ) (i v : ℕ) → i < at → region at
 unfolding region
 region-behind at n l i v h = rw (drop-set-lt at l i v h)
 
-module _ (l : List ℕ) (begun : Begun l) (n : ℕ) (none : getD l opened-word 0 ≡ 0) (below : n < getD l vregs-word 0) (order : getD l least-word 0 ≤ n) where
+module _ (l : List ℕ) (begun : Begun l) (n : ℕ) (none : getD l opened-word 0 ≡ 0) (below : n < getD l vregs-word 0) (order : getD l least-typed-word 0 ≤ n) where
   typed-now : List ℕ
   typed-now = marked-from 0 (region typed-base typed-words l)
 
@@ -88,22 +88,22 @@ module _ (l : List ℕ) (begun : Begun l) (n : ℕ) (none : getD l opened-word 0
   small : n < typed-words
   small = omega (arith, begun .bounds .vregs)
 
-  module _ (m : List ℕ) (e : m ≡ set (set l (typed-base + n) 1) least-word (n + 1)) where
+  module _ (m : List ℕ) (e : m ≡ set (set l (typed-base + n) 1) least-typed-word (n + 1)) where
     typed-after : marked-from 0 (region typed-base typed-words m) ≡ typed-now ++ (n ∷ [])
     unfolding typed-now
     typed-after =
-        rw (e, region-behind typed-base typed-words (set l (typed-base + n) 1) least-word (n + 1) (omega arith), region-set typed-base typed-words l n 1 small)
+        rw (e, region-behind typed-base typed-words (set l (typed-base + n) 1) least-typed-word (n + 1) (omega arith), region-set typed-base typed-words l n 1 small)
         (marks-more (region typed-base typed-words l) n (rw (length-region typed-base typed-words l (omega (arith, begun .bounds .size))) small) in-order)
 
     -- the other words of the header
-    header : (i : ℕ) → i < typed-base → (i ≡ least-word → ⊥) → getD m i 0 ≡ getD l i 0
-    header i h d = rw e (getD-set-other (set l (typed-base + n) 1) least-word i (n + 1) 0 d ∙ getD-set-other l (typed-base + n) i 1 0 (λ q. omega arith))
+    header : (i : ℕ) → i < typed-base → (i ≡ least-typed-word → ⊥) → getD m i 0 ≡ getD l i 0
+    header i h d = rw e (getD-set-other (set l (typed-base + n) 1) least-typed-word i (n + 1) 0 d ∙ getD-set-other l (typed-base + n) i 1 0 (λ q. omega arith))
 
     size : length m ≡ length l
     size = rw (e, length-set, length-set)
 
-    least-after : getD m least-word 0 ≡ n + 1
-    least-after = rw e (getD-set-same (set l (typed-base + n) 1) least-word (n + 1) 0 (rw length-set (omega (arith, begun .bounds .size))))
+    least-after : getD m least-typed-word 0 ≡ n + 1
+    least-after = rw e (getD-set-same (set l (typed-base + n) 1) least-typed-word (n + 1) 0 (rw length-set (omega (arith, begun .bounds .size))))
 
     no-steps : getD l steps-word 0 ≡ 0
     unfolding step-count blocks-at

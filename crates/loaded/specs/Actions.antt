@@ -106,11 +106,11 @@ abbrev pub InRange : List ℕ → List ℕ → Action → Type 0
 InRange counts words a = Within counts (λ r. r < getD counts 0 0) words a
 
 -- the marks of an operation's defs are those of `T`
-abbrev pub Honest : (Name → Bool) → List ℕ → Action → Type 0
-Honest ref words (Copy kind into from) = Unit {0}
-Honest ref words (Change inst k from to) = Unit {0}
-Honest ref words (Operation inst at n m) = (i : ℕ) → i < m → ref (name-of-word (getD words (at + defs-from + i) 0)) ≡ marked (getD words (at + defs-from + i) 0)
-Honest ref words (Safepoint inst mask) = Unit {0}
+abbrev pub DefsMarked : (Name → Bool) → List ℕ → Action → Type 0
+DefsMarked ref words (Copy kind into from) = Unit {0}
+DefsMarked ref words (Change inst k from to) = Unit {0}
+DefsMarked ref words (Operation inst at n m) = (i : ℕ) → i < m → ref (name-of-word (getD words (at + defs-from + i) 0)) ≡ marked (getD words (at + defs-from + i) 0)
+DefsMarked ref words (Safepoint inst mask) = Unit {0}
 
 -- what fits the four words of the k-th step
 abbrev pub Packs : ℕ → Action → Type 0
@@ -133,5 +133,5 @@ pub record Runnable (counts words : List ℕ) (first count : ℕ) : Type 0 where
   pub words-fit : all-words ≤ length words
   pub in-range : (k : ℕ) → first ≤ k → k < first + count → InRange counts words (action-at words k)
 
-abbrev pub HonestSteps : (Name → Bool) → List ℕ → ℕ → ℕ → Type 0
-HonestSteps ref words first count = (k : ℕ) → first ≤ k → k < first + count → Honest ref words (action-at words k)
+abbrev pub StepsMarked : (Name → Bool) → List ℕ → ℕ → ℕ → Type 0
+StepsMarked ref words first count = (k : ℕ) → first ≤ k → k < first + count → DefsMarked ref words (action-at words k)

@@ -7,7 +7,7 @@ use lib.ListN.{getD}
 use Rattle.paper.specs.Sheet.{Sheet, steps-of, reference-typed}
 use Rattle.paper.specs.Report.{missing-names, names-lines, missing-from, missing-blocks, missing-allocations}
 use Rattle.layout.specs.Layout.{blocks-word, opened-word, steps-word}
-use Rattle.loaded.specs.Actions.{step-of, action-at, steps-at, InRange, Honest}
+use Rattle.loaded.specs.Actions.{step-of, action-at, steps-at, InRange, DefsMarked}
 use Rattle.loaded.specs.Laws.{both-none, allocated}
 use Rattle.loaded.specs.Loaded.{first-step, step-total, counts-in, sheet-of, Loaded}
 use Rattle.loaded.specs.Blocks.{steps-in-words}
@@ -45,5 +45,5 @@ module _ {words : List ℕ} (L : Loaded words) (b : ℕ) (h : b < getD words blo
       (step-none words b 0 (first-step words b) place (step-total words b) hp none)
 
   pub honest-at : (place : ℕ) → place < step-total words b
-      → Honest (reference-typed (sheet-of words)) words (action-at words (first-step words b + place))
+      → DefsMarked (reference-typed (sheet-of words)) words (action-at words (first-step words b + place))
   honest-at place hp = L .bounds .each-step (first-step words b + place) (step-below place hp) .honest

@@ -9,9 +9,9 @@ use Rattle.lists.specs.Region.{region}
 use Rattle.paper.specs.Sheet.{Sheet, reference-typed}
 use Rattle.paper.specs.Limits.{max-regs, max-slots, max-vregs, max-blocks, max-succs, max-operands}
 use Rattle.paper.specs.Refusals.{Record, step-count, ascending, add-record}
-use Rattle.layout.specs.Layout.{opened-word, steps-word, least-word, begun-word, typed-base, typed-words, block-base, all-words}
+use Rattle.layout.specs.Layout.{opened-word, steps-word, least-typed-word, begun-word, typed-base, typed-words, block-base, all-words}
 use Rattle.cells.specs.Packed.{name-of-word, marked}
-use Rattle.loaded.specs.Actions.{no-register, Ranged, Honest, Packs}
+use Rattle.loaded.specs.Actions.{no-register, Ranged, DefsMarked, Packs}
 use Rattle.loaded.specs.declared.Action.{Action}
 use Rattle.loaded.specs.Loaded.{first-step, step-total, counts-in, blocks-at, marked-from, sheet-of, Bounds}
 
@@ -26,7 +26,7 @@ pub record Blank (words : List ℕ) : Type 0 where
 pub record Begun (words : List ℕ) : Type 0 where
   pub begun : getD words begun-word 0 ≡ 1
   pub bounds : Bounds words
-  pub least : (n : ℕ) → ascending (marked-from 0 (region typed-base typed-words words) ++ (n ∷ [])) ≡ leb (getD words least-word 0) n
+  pub least : (n : ℕ) → ascending (marked-from 0 (region typed-base typed-words words) ++ (n ∷ [])) ≡ leb (getD words least-typed-word 0) n
   pub counted : step-count (blocks-at words 0 (getD words opened-word 0)) ≡ getD words steps-word 0
   pub last : (b : ℕ) → b + 1 ≡ getD words opened-word 0 → first-step words b + step-total words b ≡ getD words steps-word 0
 
@@ -53,7 +53,7 @@ pub record GroupWithin (S : Sheet) (regs from count : ℕ) (words : List ℕ) : 
 pub record Fits (words : List ℕ) (action : Action) : Type 0 where
   pub packs : Packs (getD words steps-word 0) action
   pub ranged : Ranged (counts-in words) words action
-  pub honest : Honest (reference-typed (sheet-of words)) words action
+  pub honest : DefsMarked (reference-typed (sheet-of words)) words action
 
 -- the words hold one record more
 pub record Stored (before after : List ℕ) (r : Record) : Type 0 where

@@ -10,8 +10,8 @@ use lib.ListN.{length, getD}
 use Rattle.lists.specs.Region.{region}
 use Rattle.paper.specs.Sheet.{Block, Sheet, reference-typed}
 use Rattle.paper.specs.Limits.{max-regs, max-slots, max-vregs, max-blocks, max-succs, max-steps}
-use Rattle.layout.specs.Layout.{regs-word, slots-word, vregs-word, blocks-word, entry-word, opened-word, steps-word, least-word, begun-word, typed-base, typed-words, block-base, step-total-word, succ-total-word, block-words, succ-base, all-words}
-use Rattle.loaded.specs.Actions.{action-at, steps-at, Ranged, Honest}
+use Rattle.layout.specs.Layout.{regs-word, slots-word, vregs-word, blocks-word, entry-word, opened-word, steps-word, least-typed-word, begun-word, typed-base, typed-words, block-base, step-total-word, succ-total-word, block-words, succ-base, all-words}
+use Rattle.loaded.specs.Actions.{action-at, steps-at, Ranged, DefsMarked}
 use Rattle.loaded.specs.declared.Counts.{Counts}
 use Rattle.loaded.specs.declared.Reached.{Reached}
 
@@ -25,7 +25,7 @@ reached-of words = record {
   begun = not (eqb (getD words begun-word 0) 0);
   opened = getD words opened-word 0;
   steps = getD words steps-word 0;
-  least = getD words least-word 0;
+  least = getD words least-typed-word 0;
 }
 
 -- a block's words: its first step, how many steps, and how many successors
@@ -79,7 +79,7 @@ pub record BlockBounds (words : List ℕ) (b : ℕ) : Type 0 where
 -- a step's numbers keep theirs, and the marks of its operands are those of `T`
 pub record StepBounds (words : List ℕ) (k : ℕ) : Type 0 where
   pub ranged : Ranged (counts-in words) words (action-at words k)
-  pub honest : Honest (reference-typed (sheet-of words)) words (action-at words k)
+  pub honest : DefsMarked (reference-typed (sheet-of words)) words (action-at words k)
 
 -- the bounds of what has been read so far
 pub record Bounds (words : List ℕ) : Type 0 where

@@ -11,7 +11,7 @@ use Rattle.lists.specs.Region.{same-region}
 use Rattle.paper.specs.Text.{Name}
 use Rattle.paper.specs.Sheet.{Step}
 use Rattle.layout.specs.Layout.{step-base, step-words, operand-base, defs-from, operand-words}
-use Rattle.loaded.specs.Actions.{operand-of, operands, step-of, action-of, action-at, steps-at, Within, Honest, Packs, RoomFor}
+use Rattle.loaded.specs.Actions.{operand-of, operands, step-of, action-of, action-at, steps-at, Within, DefsMarked, Packs, RoomFor}
 use Rattle.loaded.specs.declared.Action.{Action}
 use Rattle.loaded.specs.declared.Action.the-variants.{Copy, Change, Operation, Safepoint}
 
@@ -90,7 +90,7 @@ module _ {l m : List ℕ} {n : ℕ} (same : SameOperands l m n) (k : ℕ) (h : k
   same-within counts Register (Safepoint inst mask) p w = w
 
   module _ (ref ref′ : Name → Bool) (e : (name : Name) → ref′ name ≡ ref name) where
-    pub same-honest : (a : Action) → Packs k a → RoomFor a l → Honest ref l a → Honest ref′ m a
+    pub same-honest : (a : Action) → Packs k a → RoomFor a l → DefsMarked ref l a → DefsMarked ref′ m a
     same-honest (Copy kind into from) p q t = t
     same-honest (Change inst slot from to) p q t = t
     same-honest (Operation inst at uses defs) p q t = λ i h. rw (same-def at (p .0) i (omega arith), e) (t i h)

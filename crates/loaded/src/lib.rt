@@ -8,7 +8,7 @@ ghost use Rattle.lists.specs.Over.{over};
 ghost use Rattle.paper.specs.Sheet.{operation};
 ghost use Rattle.paper.specs.Limits.{max-blocks, max-succs, max-steps};
 ghost use Rattle.paper.specs.Refusals.{function-record, typed-record, block-record, step-record};
-ghost use Rattle.layout.specs.Layout.{regs-word, vregs-word, blocks-word, entry-word, opened-word, steps-word, least-word, step-base, step-words, defs-from, operand-words, succ-base, all-words};
+ghost use Rattle.layout.specs.Layout.{regs-word, vregs-word, blocks-word, entry-word, opened-word, steps-word, least-typed-word, step-base, step-words, defs-from, operand-words, succ-base, all-words};
 ghost use Rattle.cells.specs.States.{row-counts};
 ghost use Rattle.loaded.specs.Actions.{rows-of, operands, step-of, action-at, tag-of, packed, Packs};
 ghost use Rattle.loaded.specs.Loaded.{first-step, step-total, succ-total, counts-in, counts-of, reached-of, sheet-of};
@@ -19,7 +19,7 @@ use layout::BLOCK_BASE;
 use layout::BLOCK_WORDS;
 use layout::BLOCKS_WORD;
 use layout::ENTRY_WORD;
-use layout::LEAST_WORD;
+use layout::LEAST_TYPED_WORD;
 use layout::MAX_SUCCS;
 use layout::OPENED_WORD;
 use layout::OPERAND_BASE;
@@ -37,6 +37,9 @@ use layout::VREGS_WORD;
 
 // The register of an operand that has no allocation.
 pub const NO_REGISTER: u16 = 63;
+
+// Where an operand's register stands, before its mark and its name.
+pub const REGISTER: u16 = 1024;
 
 // A copy of one cell, by the rows that it goes between: a slot from a register, a register from a slot, a register from a register.
 pub enum CopyKind {
@@ -173,7 +176,7 @@ pub fn rows_of(kind: CopyKind) -> CopyRows
     }
 }
 
-fn head(tag: usize, a: usize, b: usize) -> u16
+fn first_word(tag: usize, a: usize, b: usize) -> u16
     requires { ⌜ (tag < 8) × (a < 64) × (b < 64) ⌝ }
     ensures { λ r. ⌜ r ≡ tag + a * 8 + b * 512 ⌝ }
 {
@@ -186,21 +189,21 @@ fn packed(action: Action) -> [u16; STEP_WORDS]
     ensures { λ r. ⌜ r ≡ packed action ⌝ }
 {
     match action {
-        Action::Copy { kind, into, from } => [head(tag_of(kind), into, from), 0, 0, 0],
+        Action::Copy { kind, into, from } => [first_word(tag_of(kind), into, from), 0, 0, 0],
         Action::Change {
             inst,
             slot,
             from,
             to,
-        } => [head(3, slot, 0), inst, from, to],
+        } => [first_word(3, slot, 0), inst, from, to],
         Action::Operation {
             inst,
             at: _,
             uses,
             defs,
-        } => [head(4, uses, defs), inst, 0, 0],
+        } => [first_word(4, uses, defs), inst, 0, 0],
         Action::Safepoint { inst, mask } => [
-            head(5, 0, 0),
+            first_word(5, 0, 0),
             inst,
             (mask % 65536) as u16,
             (mask / 65536) as u16,
@@ -262,7 +265,7 @@ pub fn progress(words: &[u16]) -> Reached
         begun: words[BEGUN_WORD] != 0,
         opened: word(words, OPENED_WORD),
         steps: word(words, STEPS_WORD),
-        least: word(words, LEAST_WORD) as u32,
+        least: word(words, LEAST_TYPED_WORD) as u32,
     }
 }
 
@@ -322,17 +325,17 @@ pub fn store_function(words: &mut [u16], regs: u16, slots: u16, vregs: u16, bloc
     words[ENTRY_WORD] = entry;
     words[OPENED_WORD] = 0;
     words[STEPS_WORD] = 0;
-    words[LEAST_WORD] = 0;
+    words[LEAST_TYPED_WORD] = 0;
     words[BEGUN_WORD] = 1;
 }
 
 // `T`: the name's word, and the least number that the next may have.
 pub fn add_typed(words: &mut [u16], n: usize)
-    requires { ⌜ Begun (now words) × (getD (now words) opened-word 0 ≡ 0) × (n < getD (now words) vregs-word 0) × (getD (now words) least-word 0 ≤ n) ⌝ }
+    requires { ⌜ Begun (now words) × (getD (now words) opened-word 0 ≡ 0) × (n < getD (now words) vregs-word 0) × (getD (now words) least-typed-word 0 ≤ n) ⌝ }
     ensures { λ _. ⌜ Stored (now (words .entry)) (now (words .exit)) (typed-record n) ⌝ }
 {
     words[TYPED_BASE + n] = 1;
-    words[LEAST_WORD] = n as u16 + 1;
+    words[LEAST_TYPED_WORD] = n as u16 + 1;
 }
 
 fn store_succs(words: &mut [u16], at: usize, succs: [u32; MAX_SUCCS], count: usize)

@@ -18,7 +18,7 @@ pub record Flow (A : Type 0) : Type 0 where
   pub meet : A → A → A
   pub same : Discrete A
   pub succs : ℕ → List ℕ
-  pub through : ℕ → A → A
+  pub result : ℕ → A → A
   pub entry : ℕ
   pub first : A
 
@@ -51,7 +51,7 @@ module _ {A : Type 0} (F : Flow A) where
 
   unfoldable pub visit-at : Option A → ℕ → Run A → Run A
   visit-at none b r = r
-  visit-at (some a) b r = spread (F .succs b) (F .through b a) r
+  visit-at (some a) b r = spread (F .succs b) (F .result b a) r
 
   -- one visit: the block that waits longest; none where the queue is empty
   unfoldable pub step-at : List ℕ → Run A → Run A
@@ -67,14 +67,14 @@ module _ {A : Type 0} (F : Flow A) where
   run (suc visits) r = run visits (step r)
 
 -- a function of two elements, place by place, as far as both lists go
-unfoldable pub both : {A : Type 0} → (A → A → A) → List A → List A → List A
-both f [] ys = []
-both f (x ∷ xs) [] = []
-both f (x ∷ xs) (y ∷ ys) = f x y ∷ both f xs ys
+unfoldable pub pointwise : {A : Type 0} → (A → A → A) → List A → List A → List A
+pointwise f [] ys = []
+pointwise f (x ∷ xs) [] = []
+pointwise f (x ∷ xs) (y ∷ ys) = f x y ∷ pointwise f xs ys
 
 -- the meet of two states, cell by cell
 unfoldable pub meet-states : Rule → State → State → State
-meet-states rule s t = both (both (meet rule)) s t
+meet-states rule s t = pointwise (pointwise (meet rule)) s t
 
 -- are two lists the same, given that of elements
 unfoldable pub cons-same : {A : Type 0} {x y : A} {a b : List A} → Dec (x ≡ y) → Dec (a ≡ b) → Dec (_≡_ {A = List A} (x ∷ a) (y ∷ b))
@@ -98,7 +98,7 @@ flow rule S = record {
   meet = meet-states rule;
   same = state-same;
   succs = succs-of S;
-  through = λ b. effects rule (reference-typed S) (steps-of S b);
+  result = λ b. effects rule (reference-typed S) (steps-of S b);
   entry = S .entry;
   first = entry-state rule S;
 }

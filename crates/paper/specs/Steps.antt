@@ -145,14 +145,14 @@ unfoldable pub everywhere : (Cell → Cell) → State → State
 everywhere f s = map (map f) s
 
 -- f at each place, of what stands there
-unfoldable pub placed : {A : Type 0} → (ℕ → A → A) → List A → List A
-placed f [] = []
-placed f (x ∷ xs) = f 0 x ∷ placed (λ i. f (suc i)) xs
+unfoldable pub by-place : {A : Type 0} → (ℕ → A → A) → List A → List A
+by-place f [] = []
+by-place f (x ∷ xs) = f 0 x ∷ by-place (λ i. f (suc i)) xs
 
 -- at a safepoint a row loses its marked names, but for the listed slots
 unfoldable pub safepoint-row : Rule → List ℕ → ℕ → List Cell → List Cell
 safepoint-row rule slots zero row = map (collected rule) row
-safepoint-row rule slots (suc zero) row = placed (λ i c. cond (listed slots i) c (collected rule c)) row
+safepoint-row rule slots (suc zero) row = by-place (λ i c. cond (listed slots i) c (collected rule c)) row
 safepoint-row rule slots (suc (suc r)) row = map (collected rule) row
 
 -- "`O`: each def in order stores its name, marked if listed by `T`." `ref` says which names are.
@@ -172,7 +172,7 @@ old-effect ref (reload r k) s = copy (register r) (slot k) s
 old-effect ref (move into from) s = copy (register into) (register from) s
 old-effect ref (change inst k from to) s = put (slot k) (old-changed to (get s (slot k))) s
 old-effect ref (operation inst uses defs) s = old-define ref defs s
-old-effect ref (safepoint inst slots) s = placed (safepoint-row Old slots) s
+old-effect ref (safepoint inst slots) s = by-place (safepoint-row Old slots) s
 
 -- "Effects, house rule. `S`, `L`, `M` as above." "`C`: every other cell holding to becomes Conflicted; in the slot itself .."
 unfoldable pub house-effect : (Name → Bool) → Step → State → State
@@ -181,7 +181,7 @@ house-effect ref (reload r k) s = copy (register r) (slot k) s
 house-effect ref (move into from) s = copy (register into) (register from) s
 house-effect ref (change inst k from to) s = put (slot k) (house-changed from to (get s (slot k))) (everywhere (overwritten to) s)
 house-effect ref (operation inst uses defs) s = house-define ref defs s
-house-effect ref (safepoint inst slots) s = placed (safepoint-row House slots) s
+house-effect ref (safepoint inst slots) s = by-place (safepoint-row House slots) s
 
 unfoldable pub effect : Rule → (Name → Bool) → Step → State → State
 effect Old ref x s = old-effect ref x s

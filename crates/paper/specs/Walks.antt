@@ -28,7 +28,7 @@ module _ {A : Type 0} (F : Flow A) where
   -- the state that a walk comes with
   unfoldable pub along : {b : ℕ} → Walk b → A
   along start = F .first
-  along (then {b} w follows) = F .through b (along w)
+  along (then {b} w follows) = F .result b (along w)
 
   -- x is at or below y
   abbrev pub Below : A → A → Type 0

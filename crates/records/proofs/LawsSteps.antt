@@ -21,11 +21,11 @@ use Rattle.records.specs.declared.Place.{Place}
 use Rattle.records.specs.declared.Operands.{Operands}
 use Rattle.records.specs.declared.Listed.{Listed}
 use Rattle.records.specs.Records.{Ends, Next, name-of-code, Placed, CountsWithin, Counted, TypedBy, ChangeWithin, SafepointWithin}
-use Rattle.records.specs.Parts.{counted, refers, name-word, SlotsListed, GroupRead}
+use Rattle.records.specs.Parts.{counted, is-typed, name-word, SlotsListed, GroupRead}
 use Rattle.records.proofs.LawsPlaces.{none-left, not-ended, ends-here}
 use Rattle.records.proofs.LawsGroups.{name-limit}
 use Rattle.records.proofs.LawsTold.{Clear, Tested}
-use Rattle.records.proofs.LawsWords.{name-fits, virtual-fits, name-word-means, refers-right}
+use Rattle.records.proofs.LawsWords.{name-fits, virtual-fits, name-word-means, is-typed-right}
 
 -- `C`
 
@@ -92,7 +92,7 @@ module _ {counts : Counts} (w : CountsWithin counts) (inst slot from to : ℕ) {
     }
 
   pub change-tested : {so : Option Sheet} {place : Place} {typed : List ℕ} → Placed so (step-record (change inst slot (name-of-code from) (name-of-code to))) place
-      → Counted (so-far-of so) counts → TypedBy (so-far-of so) typed → {rf rt : Bool} → rf ≡ refers typed from → rt ≡ refers typed to
+      → Counted (so-far-of so) counts → TypedBy (so-far-of so) typed → {rf rt : Bool} → rf ≡ is-typed typed from → rt ≡ is-typed typed to
       → Tested so (step-record (change inst slot (name-of-code from) (name-of-code to))) place (ltb 65535 inst || (leb (counts .slots) slot || (bf || bt))) false false (not (Bool·beq rf rt))
   unfolding beyond-limit step-beyond out-of-order step-out-of-order real-elsewhere types-differ
   change-tested {so} p h t erf ert = record {
@@ -100,7 +100,7 @@ module _ {counts : Counts} (w : CountsWithin counts) (inst slot from to : ℕ) {
     limit = rw (name-limit h (name-of-code from), name-limit h (name-of-code to), h .slots, ef, et);
     order = λ z. refl;
     home = λ z. refl;
-    types = λ z. rw (erf, ert, refers-right w from (from-passes z) t, refers-right w to (to-passes z) t);
+    types = λ z. rw (erf, ert, is-typed-right w from (from-passes z) t, is-typed-right w to (to-passes z) t);
   }
 
 pub change-within : {counts : Counts} {inst slot from to from′ to′ : ℕ} → Within counts inst slot from to → from′ ≡ name-word from → to′ ≡ name-word to

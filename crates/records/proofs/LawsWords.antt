@@ -22,18 +22,18 @@ use Rattle.cells.specs.Packed.{name-of-word, marked}
 use Rattle.loaded.specs.Actions.{no-register, register-of, operand-of, operands}
 use Rattle.records.specs.Records.{CountsWithin, TypedBy, name-of-code, register-of-code}
 use Rattle.loaded.specs.Filling.{GroupWithin}
-use Rattle.records.specs.Parts.{counted, operand-of-codes, operands-of-codes, held, Roomy, name-word, register-word, mark-word, refers, word, Small}
+use Rattle.records.specs.Parts.{counted, operand-of-codes, operands-of-codes, held, Roomy, name-word, register-word, mark-word, is-typed, word, Small}
 use Rattle.records.proofs.LawsOperands.{codes-length, codes-at}
 use Rattle.records.proofs.LawsSearch.{any-each}
 
 pub mark-most : (typed : List ℕ) (n : ℕ) → mark-word typed n ≤ 512
 unfolding mark-word
-mark-most typed n = by-test (refers typed n) (λ e. rw e (omega arith)) λ e. rw e (omega arith)
+mark-most typed n = by-test (is-typed typed n) (λ e. rw e (omega arith)) λ e. rw e (omega arith)
 
 -- the two marks
-mark-cases : (typed : List ℕ) (n : ℕ) {P : Type 0} → (mark-word typed n ≡ 512 → refers typed n ≡ true → P) → (mark-word typed n ≡ 0 → refers typed n ≡ false → P) → P
+mark-cases : (typed : List ℕ) (n : ℕ) {P : Type 0} → (mark-word typed n ≡ 512 → is-typed typed n ≡ true → P) → (mark-word typed n ≡ 0 → is-typed typed n ≡ false → P) → P
 unfolding mark-word
-mark-cases typed n f g = by-test (refers typed n) (λ e. f (rw e) e) λ e. g (rw e) e
+mark-cases typed n f g = by-test (is-typed typed n) (λ e. f (rw e) e) λ e. g (rw e) e
 
 -- one word
 
@@ -66,7 +66,7 @@ module _ (typed : List ℕ) (n r : ℕ) (small : Small n r) where
   unfolding word
   word-register = mark-cases typed n (λ m e. rw m (omega (arith, small .name-small))) λ m e. rw m (omega (arith, small .name-small))
 
-  word-mark : marked (word typed n r) ≡ refers typed n
+  word-mark : marked (word typed n r) ≡ is-typed typed n
   unfolding word marked
   word-mark =
       mark-cases typed n
@@ -103,9 +103,9 @@ module _ {counts : Counts} (w : CountsWithin counts) (n : ℕ) (b : name-beyond 
   virtual-fits p = let l = leb-false (counts .vregs) n (rw (lt-ltb n 100000 p) at b) in omega (arith, w .vregs)
 
   -- the mark in the words is the sheet's
-  pub refers-right : {S : Sheet} {typed : List ℕ} → TypedBy S typed → refers typed n ≡ reference-typed S (name-of-code n)
-  unfolding refers name-of-code reference-typed
-  refers-right t =
+  pub is-typed-right : {S : Sheet} {typed : List ℕ} → TypedBy S typed → is-typed typed n ≡ reference-typed S (name-of-code n)
+  unfolding is-typed name-of-code reference-typed
+  is-typed-right t =
       by-order n 100000
       (λ p. let q : n < 256 = virtual-fits p in rw (lt-ltb n 100000 p, lt-ltb n 256 q, t .agrees n q))
       λ p. rw (le-ltb n 100000 p, le-ltb n 256 (omega arith))
@@ -207,5 +207,5 @@ module _ {counts : Counts} (w : CountsWithin counts) {g : Operands} (room : Room
         rw (p .each k q, word-register typed _ _ s) (register-word-below w _ (register-within w g room few b k q));
     marks = λ k q.
         let s = small-within w g room few b k q in
-        rw (p .each k q, word-mark typed _ _ s, word-name typed _ _ s) (sym (refers-right w _ (name-within w g room few b k q) t));
+        rw (p .each k q, word-mark typed _ _ s, word-name typed _ _ s) (sym (is-typed-right w _ (name-within w g room few b k q) t));
   }

@@ -146,11 +146,11 @@ unfoldable pub register-word : ℕ → ℕ
 register-word c = cond (ltb c 100000) c 63
 
 -- is it the code of a virtual name that the words list?
-unfoldable pub refers : List ℕ → ℕ → Bool
-refers typed c = ltb c 256 && not (eqb (getD typed c 0) 0)
+unfoldable pub is-typed : List ℕ → ℕ → Bool
+is-typed typed c = ltb c 256 && not (eqb (getD typed c 0) 0)
 
 unfoldable pub mark-word : List ℕ → ℕ → ℕ
-mark-word typed c = cond (refers typed c) 512 0
+mark-word typed c = cond (is-typed typed c) 512 0
 
 unfoldable pub word : List ℕ → ℕ → ℕ → ℕ
 word typed n r = register-word r * 1024 + mark-word typed n + name-word n

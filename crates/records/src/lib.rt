@@ -14,7 +14,8 @@ ghost use Rattle.paper.specs.Refusals.{function-record, typed-record, block-rec
 ghost use Rattle.layout.specs.Layout.{typed-words, operand-words};
 ghost use Rattle.fields.specs.Fields.{line-end, fields-behind};
 ghost use Rattle.records.specs.Records.{holding, judged-of, told, function-line, typed-line, block-line, pair-line, change-line, operation-line, safepoint-line, Placed, Behind, NumberBehind, NameBehind, AllocationBehind, name-of-code, register-of-code, CountsWithin, Counted, TypedBy, Least, Paired, FunctionClear, TypedClear, BlockClear, PairClear, ChangeClear, OperationClear, SafepointClear};
-ghost use Rattle.records.specs.Parts.{NumbersRead, ExactlyRead, operand-of-codes, OperandBehind, held, Roomy, Kept, OperandsRead, group-over, OperationWithin, below, name-word, register-word, mark-word, refers, word, Small, Listing, SlotsRead, counted, ChangeRead};
+ghost use Rattle.records.specs.Parts.{NumbersRead, ExactlyRead, operand-of-codes, OperandBehind, held, Roomy, Kept, OperandsRead, group-over, OperationWithin, below, name-word, register-word, mark-word, is-typed, word, Small, Listing, SlotsRead, counted, ChangeRead};
+use cells::MARK;
 use fields::Allocation;
 use fields::Name;
 use fields::Number;
@@ -23,6 +24,8 @@ use layout::MAX_OPERANDS;
 use layout::MAX_SUCCS;
 use layout::OPERAND_WORDS;
 use loaded::Counts;
+use loaded::NO_REGISTER;
+use loaded::REGISTER;
 use paper::BEYOND_LIMIT;
 use paper::ILL_FORMED;
 use paper::OUT_OF_ORDER;
@@ -37,6 +40,8 @@ const REAL: u32 = 100000;
 const NO_ALLOCATION: u32 = 100000;
 // One more than the largest number of a name.
 const NAMES: u32 = 200000;
+
+const REAL_NAMES: u32 = cells::REAL_NAMES as u32;
 
 // The limits of a line's numbers, as it is read.
 const MAX_REGS: u32 = layout::MAX_REGS as u32;
@@ -445,18 +450,18 @@ fn name_beyond(name: u32, counts: Counts) -> bool
 }
 
 // Is the name reference-typed? A real one never is.
-fn refers(typed: &[u16], name: u32) -> bool
+fn is_typed(typed: &[u16], name: u32) -> bool
     requires { ⌜ length (now typed) ≡ typed-words ⌝ }
-    ensures { λ r. ⌜ r ≡ refers (now (typed .entry)) name ⌝ }
+    ensures { λ r. ⌜ r ≡ is-typed (now (typed .entry)) name ⌝ }
 {
-    if name < 256 {
+    if name < MAX_VREGS {
         typed[name as usize] != 0
     } else {
         false
     }
 }
 
-// A name in nine bits: virtual v is v, real r is 256 + r.
+// A name as a packed cell has it.
 fn name_word(name: u32) -> u16
     requires { ⌜ name-word name < 512 ⌝ }
     ensures { λ r. ⌜ r ≡ name-word name ⌝ }
@@ -464,7 +469,7 @@ fn name_word(name: u32) -> u16
     if name < REAL {
         name as u16
     } else {
-        (name - REAL + 256) as u16
+        (name - REAL + REAL_NAMES) as u16
     }
 }
 
@@ -516,7 +521,7 @@ pub fn change_line(s: &[u8], at: usize, place: Place, counts: Counts, typed: &[u
     };
     let beyond = (MAX_INST < inst)
         | ((counts.slots <= slot) | (name_beyond(from, counts) | name_beyond(to, counts)));
-    let differ = refers(typed, from) != refers(typed, to);
+    let differ = is_typed(typed, from) != is_typed(typed, to);
     let judged = lowest(place, beyond, false, false, differ);
     match judged {
         Judged::Breaks(breach) => ChangeLine::Bad(breach),
@@ -704,7 +709,7 @@ fn register_word(register: u32) -> u16
     if register < NO_ALLOCATION {
         register as u16
     } else {
-        63
+        NO_REGISTER
     }
 }
 
@@ -712,15 +717,15 @@ fn mark_word(typed: &[u16], name: u32) -> u16
     requires { ⌜ length (now typed) ≡ typed-words ⌝ }
     ensures { λ r. ⌜ r ≡ mark-word (now (typed .entry)) name ⌝ }
 {
-    if refers(typed, name) { 512 } else { 0 }
+    if is_typed(typed, name) { MARK } else { 0 }
 }
 
-// An operand in one word: register * 1024 + mark * 512 + name, with register 63 for none.
+// An operand in one word: its register, or NO_REGISTER, before the mark and the name as a packed cell has them.
 fn operand_word(name: u32, register: u32, typed: &[u16]) -> u16
     requires { ⌜ (length (now typed) ≡ typed-words) × Small name register ⌝ }
     ensures { λ r. ⌜ r ≡ word (now (typed .entry)) name register ⌝ }
 {
-    register_word(register) * 1024 + mark_word(typed, name) + name_word(name)
+    register_word(register) * REGISTER + mark_word(typed, name) + name_word(name)
 }
 
 // The words of a group, from `from` on.

@@ -8,7 +8,10 @@ ghost use Rattle.paper.specs.Limits.{report-size};
 ghost use Rattle.paper.specs.Report.{behind-tabs, rule-text, header-text};
 ghost use Rattle.cells.specs.Packed.{name-of-word};
 ghost use Rattle.report.specs.Lines.{field-text, field-texts, fields-line, PositionWithin};
+use cells::MARK;
 use paper::Rule;
+
+const REAL_NAMES: u32 = cells::REAL_NAMES as u32;
 
 // A field of an `E` line: `-`, `rN`, `sN`, or a name's nine bits.
 pub enum Field {
@@ -38,11 +41,11 @@ pub fn write_packed_name(report: &mut [u8], at: usize, w: u16) -> usize
     requires { ⌜ at + length (name-text (name-of-word w)) ≤ length (now report) ⌝ }
     ensures { λ r. ⌜ Wrote (now (report .entry)) at (name-text (name-of-word w)) (now (report .exit)) r ⌝ }
 {
-    let name = (w % 512) as u32;
-    if name < 256 {
+    let name = (w % MARK) as u32;
+    if name < REAL_NAMES {
         fields::write_name(report, at, false, name)
     } else {
-        fields::write_name(report, at, true, name - 256)
+        fields::write_name(report, at, true, name - REAL_NAMES)
     }
 }
 

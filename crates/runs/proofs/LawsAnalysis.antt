@@ -61,7 +61,7 @@ module _ {rule : Rule} {words₀ queue₀ words queue : List ℕ} {ring : Ring} 
   pub going-left : 0 < ring .count → visits < visit-bound rule (sheet-of words₀)
   going-left h =
       let e : length (held queue ring) ≡ _ = ap length (g .running .stands .waiting) in
-      omega (arith, standing-room rule (sheet-of words₀) _ (g .running .standing), e, length-held queue (ring .head) (ring .count))
+      omega (arith, standing-room rule (sheet-of words₀) _ (g .running .standing), e, length-held queue (ring .front) (ring .count))
 
   pub going-small : 0 < ring .count → visits < queue-size
   going-small h = omega (arith, going-left h, bound-fits rule (g .running .stands .tables .sheet))
@@ -70,7 +70,7 @@ module _ {rule : Rule} {words₀ queue₀ words queue : List ℕ} {ring : Ring} 
   some-wait : 0 < ring .count → ¬ ((run (flow rule (sheet-of words₀)) visits (begin rule (sheet-of words₀))) .queue ≡ [])
   some-wait h e =
       let n : length (held queue ring) ≡ 0 = ap length (g .running .stands .waiting ∙ e) in
-      omega (arith, n, length-held queue (ring .head) (ring .count))
+      omega (arith, n, length-held queue (ring .front) (ring .count))
 
   pub going-more : {words′ queue′ : List ℕ} {ring′ : Ring} {settled′ : List ℕ} → 0 < ring .count → Visited rule words queue ring settled words′ queue′ ring′ settled′ → Going rule words₀ queue₀ words′ queue′ ring′ settled′ (visits + 1)
   going-more {words′} {queue′} {ring′} h m = record {
@@ -79,7 +79,7 @@ module _ {rule : Rule} {words₀ queue₀ words queue : List ℕ} {ring : Ring} 
     running = record {
       closed = g .running .closed;
       allocated = g .running .allocated;
-      standing = rw (add-one, run-suc (flow rule (sheet-of words₀)) visits (begin rule (sheet-of words₀))) (waits (held queue ring) (length-held queue (ring .head) (ring .count)) (g .running .stands .waiting));
+      standing = rw (add-one, run-suc (flow rule (sheet-of words₀)) visits (begin rule (sheet-of words₀))) (waits (held queue ring) (length-held queue (ring .front) (ring .count)) (g .running .stands .waiting));
       stands = rw (add-one, run-suc (flow rule (sheet-of words₀)) visits (begin rule (sheet-of words₀))) (m .stands _ _ (g .running .stands) (g .passed));
     };
     passed = rw (add-one, run-suc (flow rule (sheet-of words₀)) visits (begin rule (sheet-of words₀))) (m .passed _ _ (g .running .stands) (g .passed));
@@ -96,7 +96,7 @@ module _ {rule : Rule} {words₀ queue₀ words queue : List ℕ} {ring : Ring} 
     none-wait : (run (flow rule (sheet-of words₀)) visits (begin rule (sheet-of words₀))) .queue ≡ []
     none-wait =
         let none : ring .count ≡ 0 = omega arith in
-        sym (g .running .stands .waiting) ∙ ap (held-from queue (ring .head)) none ∙ none-held queue (ring .head)
+        sym (g .running .stands .waiting) ∙ ap (held-from queue (ring .front)) none ∙ none-held queue (ring .front)
 
     pub going-ends : Analysed rule words₀ queue₀ words queue
     unfolding checked-from

@@ -29,7 +29,7 @@ pub begun : {rule : Rule} {words₀ words words′ queue queue′ : List ℕ} {r
     → Tables rule (sheet-of words₀) words (before rule (sheet-of words₀))
     → Entered entry s words words′
     → ((counts : List ℕ) → RowsFit counts → getD counts 0 0 ≡ regs → state-of counts s ≡ entry-rows rule counts)
-    → Appended queue (record { head = 0; count = 0 }) entry queue′ ring
+    → Appended queue (record { front = 0; count = 0 }) entry queue′ ring
     → Begins rule words₀ queue words′ queue′ ring
 unfolding begin sheet-of entry-state counts-of
 begun {rule} {words₀} {queue = queue} ready r e kept tables entered first app = record {

@@ -69,19 +69,19 @@ pub none-held : (q : List ℕ) (h : ℕ) → held-from q h 0 ≡ []
 unfolding held-from
 none-held q h = refl
 
-pub append-is : (q : List ℕ) (r : Ring) (b t : ℕ) → Sound q r → r .count < queue-size → t ≡ place (r .head) (r .count)
-    → Appended q r b (set q t b) (record { head = r .head; count = r .count + 1 })
+pub append-is : (q : List ℕ) (r : Ring) (b t : ℕ) → Sound q r → r .count < queue-size → t ≡ place (r .front) (r .count)
+    → Appended q r b (set q t b) (record { front = r .front; count = r .count + 1 })
 append-is q r b t s h e = record {
   sound = record { size = rw length-set (s .size); inside = s .inside; fits = omega arith };
   same-length = length-set q t b;
-  holds = rw e (held-more q (r .head) (r .count) b (s .size) (s .inside) h);
+  holds = rw e (held-more q (r .front) (r .count) b (s .size) (s .inside) h);
 }
 
-pub take-is : (q : List ℕ) (r : Ring) (h : ℕ) → Sound q r → 0 < r .count → h ≡ place (r .head) 1
-    → Taken q r (record { head = h; count = r .count - 1 })
+pub take-is : (q : List ℕ) (r : Ring) (h : ℕ) → Sound q r → 0 < r .count → h ≡ place (r .front) 1
+    → Taken q r (record { front = h; count = r .count - 1 })
 take-is q r h s p e = record {
-  sound = record { size = s .size; inside = rw e (place-inside (r .head) 1 (s .inside) (omega arith)); fits = omega (arith, s .fits) };
+  sound = record { size = s .size; inside = rw e (place-inside (r .front) 1 (s .inside) (omega arith)); fits = omega (arith, s .fits) };
   holds =
       let n : r .count ≡ suc (r .count - 1) = omega arith in
-      ap (held-from q (r .head)) n ∙ rw e (held-first q (r .head) (r .count - 1) (s .inside) (omega (arith, s .fits)));
+      ap (held-from q (r .front)) n ∙ rw e (held-first q (r .front) (r .count - 1) (s .inside) (omega (arith, s .fits)));
 }

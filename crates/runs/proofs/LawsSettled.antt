@@ -73,7 +73,7 @@ module _ (rule : Rule) (S : Sheet) where
 
   -- block b is visited
   pub passing-first : (b : ℕ) (a : State) (settled : List ℕ) (table : ℕ → Option State) → table b ≡ some a → PassedOn F (Settled settled) table
-      → Passing F (Settled (set settled b 1)) (F .through b a) (F .succs b) table
+      → Passing F (Settled (set settled b 1)) (F .result b a) (F .succs b) table
   passing-first b a settled table e g = visit-passing F table b a e (F .succs b) (λ s i. i) (λ c n q. still-settled settled b 1 c n q) g
 
 -- a state that came unsettles its block where it is new

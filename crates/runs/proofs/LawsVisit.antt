@@ -28,7 +28,7 @@ use Rattle.loaded.specs.Loaded.{succ-total, sheet-of, BlockBounds}
 use Rattle.loaded.specs.Blocks.{succs-in-words}
 use Rattle.tables.specs.Held.{held-state}
 use Rattle.runs.specs.Queue.{held, Sound, Taken}
-use Rattle.tables.specs.Table.{Ready, Holds, mark-of, arrives, Through}
+use Rattle.tables.specs.Table.{Ready, Holds, mark-of, arrives, ResultOf}
 use Rattle.runs.specs.Stands.{Stands, Continues, Moved}
 use Rattle.runs.specs.declared.Ring.{Ring}
 use Rattle.runs.specs.Settled.{Settled, unsettled, Unsettled, Visited}
@@ -122,7 +122,7 @@ pub record Visiting (words : List ℕ) (b : ℕ) : Type 0 where
 
 -- the block that waits longest
 abbrev first-of : List ℕ → Ring → ℕ
-first-of queue ring = getD queue (ring .head) 0
+first-of queue ring = getD queue (ring .front) 0
 
 module _ {rule : Rule} {words queue : List ℕ} {ring ring₁ : Ring} (c : Continues rule words queue ring) (taken : Taken queue ring ring₁) where
   first-waits : (c .at) .queue ≡ first-of queue ring ∷ held queue ring₁
@@ -135,7 +135,7 @@ module _ {rule : Rule} {words queue : List ℕ} {ring ring₁ : Ring} (c : Conti
   first-here = standing-below rule _ _ (c .running .standing) (first-of queue ring) first-in
 
   -- it is a block, and visited
-  pub first-below : getD queue (ring .head) 0 < getD words blocks-word 0
+  pub first-below : getD queue (ring .front) 0 < getD words blocks-word 0
   first-below = rw (← blocks-are (c .running .stands .tables .sheet)) first-here
 
   first-marked : getD words (mark-at (first-of queue ring)) 0 ≡ 0 → ⊥
@@ -167,13 +167,13 @@ module _ {rule : Rule} {words queue : List ℕ} {ring ring₁ : Ring} (c : Conti
   first-bounds : BlockBounds words (first-of queue ring)
   first-bounds = c .running .stands .tables .sheet .ready .loaded .bounds .each-block (first-of queue ring) first-opened
 
-  pub visiting : Visiting words (getD queue (ring .head) 0)
+  pub visiting : Visiting words (getD queue (ring .front) 0)
   visiting =
       let L = c .running .stands .tables .sheet .ready .loaded .bounds in
       record { small = omega (arith, first-below, L .blocks); succs = first-bounds .succs; size = L .size }
 
   -- it is settled: the visit changes nothing but the queue
-  pub visited-settled : (settled : List ℕ) → Settled settled (getD queue (ring .head) 0) → Visited rule words queue ring settled words queue ring₁ settled
+  pub visited-settled : (settled : List ℕ) → Settled settled (getD queue (ring .front) 0) → Visited rule words queue ring settled words queue ring₁ settled
   visited-settled settled q = record {
     kept = kept-same _ _ _;
     same-length = refl;
@@ -187,7 +187,7 @@ module _ {rule : Rule} {words queue : List ℕ} {ring ring₁ : Ring} (c : Conti
           step-visit (flow rule S) r (first-of queue ring) (held queue ring₁) _ (sym (h .waiting) ∙ taken .holds) (first-state S r h)
           ∙ spread-covered (flow rule S) _ _ _ (λ s i. k .closed (first-of queue ring) _ (first-state S r h) q s i)
 
-  module _ {s : List (List ℕ)} {words′ queue′ : List ℕ} {ring′ : Ring} {i : ℕ} (through : Through rule (first-of queue ring) words s)
+  module _ {s : List (List ℕ)} {words′ queue′ : List ℕ} {ring′ : Ring} {i : ℕ} (made : ResultOf rule (first-of queue ring) words s)
       (g : Serving rule words queue ring₁ s (succ-base (first-of queue ring)) (succ-total words (first-of queue ring)) words′ queue′ ring′ i) where
     serving-stands : Stands rule (c .sheet) words′ queue′ ring′ (spread (flow rule (c .sheet)) (region (succ-base (first-of queue ring)) i words) (state-of (counts-of (c .sheet)) s) (record { table = (c .at) .table; queue = held queue ring₁ }))
     serving-stands = g .moved .stands (c .sheet) _ (rest-stands (c .sheet) (c .at) (c .running .stands))
@@ -201,7 +201,7 @@ module _ {rule : Rule} {words queue : List ℕ} {ring ring₁ : Ring} (c : Conti
         first-succs S (c .running .stands .tables .sheet) ∙ ap (λ (n : ℕ). region (succ-base b) n words) (omega (arith, g .past)) ∙ region-joined (succ-base b) i words (succ-total words b - i) in
         let inside = standing-inside rule S _ (c .running .standing) b (held queue ring₁) _ (region (succ-base b) i words) _ first-waits (first-state S (c .at) (c .running .stands)) succs in
         let e : length (held queue′ ring′) ≡ _ = ap length (serving-stands .waiting) in
-        omega (arith, bound-fits rule (c .running .stands .tables .sheet), length-held queue′ (ring′ .head) (ring′ .count), e, rw (← through .is S (c .running .stands .tables .sheet)) at (standing-room rule S _ inside))
+        omega (arith, bound-fits rule (c .running .stands .tables .sheet), length-held queue′ (ring′ .front) (ring′ .count), e, rw (← made .is S (c .running .stands .tables .sheet)) at (standing-room rule S _ inside))
 
     pub serving-sound : Sound queue′ ring′
     serving-sound = serving-stands .sound
@@ -210,24 +210,24 @@ module _ {rule : Rule} {words queue : List ℕ} {ring ring₁ : Ring} (c : Conti
     serving-ready = ready-stays (g .moved .kept) (c .running .stands .tables .sheet .ready)
 
     -- the next successor is a block
-    pub serving-block : i < succ-total words (getD queue (ring .head) 0) → getD words′ (succ-base (getD queue (ring .head) 0) + i) 0 < getD words′ blocks-word 0
+    pub serving-block : i < succ-total words (getD queue (ring .front) 0) → getD words′ (succ-base (getD queue (ring .front) 0) + i) 0 < getD words′ blocks-word 0
     serving-block l =
         let low : succ-base (first-of queue ring) + i < state-base = omega (arith, visiting .small, visiting .succs) in
         rw (g .moved .kept .below (succ-base (first-of queue ring) + i) low, g .moved .kept .below blocks-word (omega arith)) (first-bounds .below i l)
 
     -- all are served: that was the visit
-    pub moved-visit : succ-total words (getD queue (ring .head) 0) ≤ i → Moved rule words queue ring words′ queue′ ring′ (λ S. step (flow rule S))
+    pub moved-visit : succ-total words (getD queue (ring .front) 0) ≤ i → Moved rule words queue ring words′ queue′ ring′ (λ S. step (flow rule S))
     unfolding flow
     moved-visit l = record { kept = g .moved .kept; same-length = g .moved .same-length; stands = stands }
       where
         stands : (S : Sheet) (r : Run State) → Stands rule S words queue ring r → Stands rule S words′ queue′ ring′ (step (flow rule S) r)
         stands S r h =
             let all : i ≡ succ-total words (first-of queue ring) = omega (arith, g .past) in
-            rw (step-visit (flow rule S) r (first-of queue ring) (held queue ring₁) _ (sym (h .waiting) ∙ taken .holds) (first-state S r h), ← through .is S (h .tables .sheet), first-succs S (h .tables .sheet), ← all)
+            rw (step-visit (flow rule S) r (first-of queue ring) (held queue ring₁) _ (sym (h .waiting) ∙ taken .holds) (first-state S r h), ← made .is S (h .tables .sheet), first-succs S (h .tables .sheet), ← all)
             (g .moved .stands S _ (rest-stands S r h))
 
     pub visited-run : {settled settled′ : List ℕ} → Settling rule words queue ring₁ s (succ-base (first-of queue ring)) (succ-total words (first-of queue ring)) (set settled (first-of queue ring) 1) settled′ i
-        → succ-total words (getD queue (ring .head) 0) ≤ i → Visited rule words queue ring settled words′ queue′ ring′ settled′
+        → succ-total words (getD queue (ring .front) 0) ≤ i → Visited rule words queue ring settled words′ queue′ ring′ settled′
     unfolding flow
     visited-run {settled} {settled′} m l =
         let v = moved-visit l in
@@ -242,7 +242,7 @@ module _ {rule : Rule} {words queue : List ℕ} {ring ring₁ : Ring} (c : Conti
             let all : i ≡ succ-total words b = omega (arith, g .past) in
             let none : succ-total words b - i ≡ 0 = omega arith in
             let begun : Passing (flow rule S) (Settled (set settled b 1)) x (region (succ-base b) (succ-total words b) words) (r .table) =
-            rw (through .is S (h .tables .sheet), ← first-succs S (h .tables .sheet)) (passing-first rule S b _ settled (r .table) (first-state S r h) k) in
+            rw (made .is S (h .tables .sheet), ← first-succs S (h .tables .sheet)) (passing-first rule S b _ settled (r .table) (first-state S r h) k) in
             let ended : PassedOn (flow rule S) (Settled settled′) ((spread (flow rule S) (region (succ-base b) i words) x rest) .table) =
             passing-done (flow rule S) _ x (rw (none, region-none) at (m .passing S rest (rest-stands S r h) begun)) in
-            rw (step-visit (flow rule S) r b (held queue ring₁) _ (sym (h .waiting) ∙ taken .holds) (first-state S r h), ← through .is S (h .tables .sheet), first-succs S (h .tables .sheet), ← all) ended
+            rw (step-visit (flow rule S) r b (held queue ring₁) _ (sym (h .waiting) ∙ taken .holds) (first-state S r h), ← made .is S (h .tables .sheet), first-succs S (h .tables .sheet), ← all) ended

@@ -1,4 +1,4 @@
--- The blocks that wait, in a ring: `count` bytes from `head` on, round the end of the queue's first `queue-size` bytes.
+-- The blocks that wait, in a ring: `count` bytes from `front` on, round the end of the queue's first `queue-size` bytes.
 use mathlib.Core.Path.{_≡_}
 use mathlib.Core.Bool.{Bool, true, false, cond}
 use mathlib.Core.List.{List, [], _∷_, _++_}
@@ -8,20 +8,20 @@ use lib.ListN.{length, getD}
 use Rattle.paper.specs.Limits.{queue-size}
 use Rattle.runs.specs.declared.Ring.{Ring}
 
--- the place n bytes behind `head`
+-- the place n bytes behind `front`
 unfoldable pub place : ℕ → ℕ → ℕ
-place head n = cond (ltb (head + n) queue-size) (head + n) (head + n - queue-size)
+place front n = cond (ltb (front + n) queue-size) (front + n) (front + n - queue-size)
 
 unfoldable pub held-from : List ℕ → ℕ → ℕ → List ℕ
-held-from queue head zero = []
-held-from queue head (suc n) = held-from queue head n ++ (getD queue (place head n) 0 ∷ [])
+held-from queue front zero = []
+held-from queue front (suc n) = held-from queue front n ++ (getD queue (place front n) 0 ∷ [])
 
 abbrev pub held : List ℕ → Ring → List ℕ
-held queue ring = held-from queue (ring .head) (ring .count)
+held queue ring = held-from queue (ring .front) (ring .count)
 
 pub record Sound (queue : List ℕ) (ring : Ring) : Type 0 where
   pub size : queue-size ≤ length queue
-  pub inside : ring .head < queue-size
+  pub inside : ring .front < queue-size
   pub fits : ring .count ≤ queue-size
 
 -- one more at the end
@@ -38,4 +38,4 @@ Waits false b queue ring queue′ ring′ = (queue′ ≡ queue) × (ring′ ≡
 -- the one that waits longest is gone
 pub record Taken (queue : List ℕ) (ring : Ring) (ring′ : Ring) : Type 0 where
   pub sound : Sound queue ring′
-  pub holds : held queue ring ≡ getD queue (ring .head) 0 ∷ held queue ring′
+  pub holds : held queue ring ≡ getD queue (ring .front) 0 ∷ held queue ring′

@@ -17,18 +17,18 @@ use layout::MAX_BLOCKS;
 use layout::QUEUE_SIZE;
 use paper::Rule;
 
-// The blocks that wait: `count` bytes of the queue from `head` on, round its end.
+// The blocks that wait: `count` bytes of the queue from `front` on, round its end.
 pub struct Ring {
-    pub head: usize,
+    pub front: usize,
     pub count: usize,
 }
 
-// The place n bytes behind `head`.
-fn place(head: usize, n: usize) -> usize
-    requires { ⌜ (head < queue-size) × (n ≤ queue-size) ⌝ }
-    ensures { λ r. ⌜ (r ≡ place head n) × (r < queue-size) ⌝ }
+// The place n bytes behind `front`.
+fn place(front: usize, n: usize) -> usize
+    requires { ⌜ (front < queue-size) × (n ≤ queue-size) ⌝ }
+    ensures { λ r. ⌜ (r ≡ place front n) × (r < queue-size) ⌝ }
 {
-    let there = head + n;
+    let there = front + n;
     if there < QUEUE_SIZE {
         there
     } else {
@@ -41,25 +41,25 @@ fn append(queue: &mut [u8], ring: Ring, b: u8) -> Ring
     requires { ⌜ Sound (now queue) ring × (ring .count < queue-size) ⌝ }
     ensures { λ r. ⌜ Appended (now (queue .entry)) ring b (now (queue .exit)) r ⌝ }
 {
-    let head = ring.head;
+    let front = ring.front;
     let count = ring.count;
-    let there = place(head, count);
+    let there = place(front, count);
     queue[there] = b;
     Ring {
-        head,
+        front,
         count: count + 1,
     }
 }
 
-// The block at the head waits no more.
+// The block at the front waits no more.
 fn take(ring: Ring) -> Ring
-    requires { ⌜ (ring .head < queue-size) × (0 < ring .count) ⌝ }
+    requires { ⌜ (ring .front < queue-size) × (0 < ring .count) ⌝ }
     ensures { λ r. ⌜ ((queue : List ℕ) → Sound queue ring → Taken queue ring r) ⌝ }
 {
-    let head = ring.head;
+    let front = ring.front;
     let count = ring.count;
     Ring {
-        head: place(head, 1),
+        front: place(front, 1),
         count: count - 1,
     }
 }
@@ -73,7 +73,7 @@ fn begin(rule: Rule, words: &mut [u16], queue: &mut [u8]) -> Ring
     let entry = loaded::entry(words);
     tables::begin_blocks(rule, words);
     tables::enter(words, entry, cells::entry_state(rule, counts.regs));
-    append(queue, Ring { head: 0, count: 0 }, entry as u8)
+    append(queue, Ring { front: 0, count: 0 }, entry as u8)
 }
 
 // Where what came to block b is new, the block waits, and is settled no more.
@@ -89,7 +89,7 @@ fn wait(new: bool, queue: &mut [u8], settled: &mut [u8; MAX_BLOCKS], ring: Ring,
     }
 }
 
-// One visit: the block at the head is taken, its steps are run, and each successor in listed order gets the result. A settled block
+// One visit: the block at the front is taken, its steps are run, and each successor in listed order gets the result. A settled block
 // has the state of its last visit and its successors have the result, so there is nothing to do.
 fn visit(
     table: &[[[u8; 4]; 4]; 2],
@@ -102,14 +102,14 @@ fn visit(
     requires { ⌜ (now table ≡ meet-table) × Continues rule (now words) (now queue) ring × (0 < ring .count) ⌝ }
     ensures { λ r. ⌜ Visited rule (now (words .entry)) (now (queue .entry)) ring (now (settled .entry)) (now (words .exit)) (now (queue .exit)) r (now (settled .exit)) ⌝ }
 {
-    let head = ring.head;
-    let b = queue[head] as usize;
+    let front = ring.front;
+    let b = queue[front] as usize;
     let mut waiting = take(ring);
     if settled[b] == 1 {
         return waiting;
     }
     settled[b] = 1;
-    let result = tables::through(rule, words, b);
+    let result = tables::result_of(rule, words, b);
     let total = loaded::succ_total(words, b);
     let mut i = 0;
     while i < total {

@@ -13,7 +13,7 @@ use Rattle.paper.specs.Text.{Bytes}
 use Rattle.paper.specs.Sheet.{Step}
 use Rattle.paper.specs.Limits.{max-steps}
 use Rattle.paper.specs.Refusals.{function-record, typed-record, block-record, step-record, empty, out-of-place, step-too-many, step-count, blank, so-far-of}
-use Rattle.layout.specs.Layout.{blocks-word, opened-word, steps-word, least-word, begun-word, typed-base, typed-words, all-words}
+use Rattle.layout.specs.Layout.{blocks-word, opened-word, steps-word, least-typed-word, begun-word, typed-base, typed-words, all-words}
 use Rattle.records.specs.Records.{InPlace, Placed, Counted, CountsWithin, TypedBy, Least}
 use Rattle.loaded.specs.declared.Counts.{Counts}
 use Rattle.records.specs.declared.Place.{Place}
@@ -168,9 +168,9 @@ module _ (l : List ℕ) where
   unfolding sheet-of
   typed-by = record { agrees = λ n h. listed-marked (region typed-base typed-words l) n }
 
-  least-of : Progress l → Least (sheet-of l) (getD l least-word 0)
+  least-of : Progress l → Least (sheet-of l) (getD l least-typed-word 0)
   unfolding sheet-of
-  least-of (reading.blank p) = record { agrees = λ n. rw (none-typed l p, p .zeros least-word (omega arith)) (ascending-one n) }
+  least-of (reading.blank p) = record { agrees = λ n. rw (none-typed l p, p .zeros least-typed-word (omega arith)) (ascending-one n) }
   least-of (reading.begun p) = record { agrees = p .least }
 
 -- the same of the sheet so far

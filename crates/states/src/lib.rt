@@ -17,6 +17,9 @@ ghost use Rattle.tables.specs.Table.{mark-of};
 ghost use Rattle.checker.specs.Checked.{lent, Stated};
 ghost use Rattle.states.specs.EntryStates as text;
 ghost use Rattle.states.specs.Stated.{part-text, Written, HoldsStates, row-text, head-text, longest-cell, longest-head, longest-line, longest-text};
+use cells::KIND;
+use cells::KINDS;
+use cells::MARK;
 use faults::Missing;
 use layout::MARK_BASE;
 use layout::REPORT_SIZE;
@@ -38,7 +41,7 @@ fn write_named(out: &mut [u8], at: usize, cell: u16) -> usize
     ensures { λ r. ⌜ Wrote (now (out .entry)) at (text.cell-text (paper.named (name-of-word cell) (marked cell))) (now (out .exit)) r × (r ≤ at + longest-cell) ⌝ }
 {
     let end = report::write_packed_name(out, at, cell);
-    if cell / 512 % 2 == 1 {
+    if cell / MARK % 2 == 1 {
         return fields::write_byte(out, end, b'*');
     }
     end
@@ -50,7 +53,7 @@ fn write_cell(out: &mut [u8], at: usize, cell: u16) -> usize
     ensures { λ r. ⌜ Wrote (now (out .entry)) at (tab ∷ text.cell-text (cell-of cell)) (now (out .exit)) r × (r ≤ at + 1 + longest-cell) ⌝ }
 {
     let next = fields::write_byte(out, at, b'\t');
-    let kind = cell / 1024 % 4;
+    let kind = cell / KIND % KINDS;
     match kind {
         0 => fields::write_byte(out, next, b'.'),
         1 => fields::write_byte(out, next, b'?'),

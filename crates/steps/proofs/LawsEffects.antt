@@ -13,7 +13,7 @@ use Rattle.paper.specs.Text.{Name}
 use Rattle.paper.specs.Sheet as sheet
 use Rattle.paper.specs.Sheet.{Operand}
 use Rattle.paper.specs.Cells.{named, overwritten, copied, house-changed, old-changed}
-use Rattle.paper.specs.Steps.{State, get, put, copy, cell-at, store-at, location-of, everywhere, placed, safepoint-row, old-define, house-define, old-effect, house-effect, effect, effects}
+use Rattle.paper.specs.Steps.{State, get, put, copy, cell-at, store-at, location-of, everywhere, by-place, safepoint-row, old-define, house-define, old-effect, house-effect, effect, effects}
 use Rattle.paper.specs.declared.Rule.{Rule}
 use Rattle.paper.specs.declared.Rule.the-variants.{Old, House}
 use Rattle.layout.specs.Layout.{defs-from, row-words, row-widths}
@@ -103,9 +103,9 @@ module _ (rule : Rule) (ref : Name → Bool) (S : State) where
   copy-effect Reload into from e = rw e (reload-effect into from)
   copy-effect Move into from e = rw e (move-effect into from)
 
-  pub safepoint-effect : (inst mask : ℕ) → placed (safepoint-row rule (set-bits mask)) S ≡ effect rule ref (sheet.safepoint inst (set-bits mask)) S
+  pub safepoint-effect : (inst mask : ℕ) → by-place (safepoint-row rule (set-bits mask)) S ≡ effect rule ref (sheet.safepoint inst (set-bits mask)) S
   unfolding old-effect house-effect
-  safepoint-effect inst mask = by-rule (sheet.safepoint inst (set-bits mask)) (λ r. placed (safepoint-row r (set-bits mask)) S) refl refl
+  safepoint-effect inst mask = by-rule (sheet.safepoint inst (set-bits mask)) (λ r. by-place (safepoint-row r (set-bits mask)) S) refl refl
 
   pub operation-effect : (words : List ℕ) (inst at n m : ℕ) → at + defs-from + m ≤ length words
       → ((i : ℕ) → i < m → ref (name-of-word (getD words (at + defs-from + i) 0)) ≡ marked (getD words (at + defs-from + i) 0))

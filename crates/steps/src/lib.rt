@@ -14,15 +14,21 @@ ghost use Rattle.paper.specs.Limits.{max-regs, max-slots};
 ghost use Rattle.layout.specs.Layout.{row-widths};
 ghost use Rattle.cells.specs.Packed.{name-of-word};
 ghost use Rattle.cells.specs.States.{state-of, RowsFit};
-ghost use Rattle.loaded.specs.Actions.{operands, step-of, steps-at, InRange, Honest, RoomFor, Runnable, HonestSteps};
+ghost use Rattle.loaded.specs.Actions.{operands, step-of, steps-at, InRange, DefsMarked, RoomFor, Runnable, StepsMarked};
 ghost use Rattle.steps.specs.Faults.{fault-of, some-in};
 ghost use Rattle.steps.specs.Checks.{is-error, use-error, change-error, slot-error, first-error, use-in, slot-in};
 ghost use Rattle.steps.specs.Defs.{define-word, define-words};
+use cells::KIND;
+use cells::KINDS;
+use cells::MARK;
+use cells::NAMED;
+use cells::NAMED_KIND;
 use cells::State;
 use layout::DEFS_FROM;
 use layout::ROW_WORDS;
 use loaded::Action;
 use loaded::NO_REGISTER;
+use loaded::REGISTER;
 use paper::Rule;
 
 // What a check finds.
@@ -87,7 +93,7 @@ pub fn missing_among(words: &[u16], at: usize, n: usize) -> bool
     let mut place = at;
     let mut left = n;
     while 0 < left {
-        if words[place] / 1024 == NO_REGISTER {
+        if words[place] / REGISTER == NO_REGISTER {
             return true;
         }
         place += 1;
@@ -119,17 +125,17 @@ pub fn missing(words: &[u16], action: Action) -> bool
 fn check_use(u: u16, w: u16) -> CheckerError
     ensures { λ r. ⌜ r ≡ use-error u w ⌝ }
 {
-    let reg = (u / 1024) as usize;
-    if w / 1024 % 4 != 3 {
+    let reg = (u / REGISTER) as usize;
+    if w / KIND % KINDS != NAMED_KIND {
         return CheckerError::UnknownValueInReg { reg: reg };
     }
-    if w % 512 == u % 512 {
+    if w % MARK == u % MARK {
         CheckerError::Nothing
     } else {
         CheckerError::IncorrectValueInReg {
             reg: reg,
-            expected: u % 512,
-            actual: w % 512,
+            expected: u % MARK,
+            actual: w % MARK,
         }
     }
 }
@@ -137,19 +143,19 @@ fn check_use(u: u16, w: u16) -> CheckerError
 fn check_change(slot: usize, from: u16, w: u16) -> CheckerError
     ensures { λ r. ⌜ r ≡ change-error slot from w ⌝ }
 {
-    if w / 1024 % 4 != 3 {
+    if w / KIND % KINDS != NAMED_KIND {
         return CheckerError::UnknownValueInSlot {
             slot: slot,
-            expected: from % 512,
+            expected: from % MARK,
         };
     }
-    if w % 512 == from % 512 {
+    if w % MARK == from % MARK {
         CheckerError::Nothing
     } else {
         CheckerError::IncorrectValueInSlot {
             slot: slot,
-            expected: from % 512,
-            actual: w % 512,
+            expected: from % MARK,
+            actual: w % MARK,
         }
     }
 }
@@ -157,10 +163,10 @@ fn check_change(slot: usize, from: u16, w: u16) -> CheckerError
 fn check_slot(slot: usize, w: u16) -> CheckerError
     ensures { λ r. ⌜ r ≡ slot-error slot w ⌝ }
 {
-    if w / 1024 % 4 != 3 {
+    if w / KIND % KINDS != NAMED_KIND {
         return CheckerError::StackMapSpecifiesUndefinedSlot { slot: slot };
     }
-    if w / 512 % 2 == 1 {
+    if w / MARK % 2 == 1 {
         CheckerError::Nothing
     } else {
         CheckerError::StackMapSpecifiesNonRefSlot { slot: slot }
@@ -190,7 +196,7 @@ fn check_uses(words: &[u16], at: usize, n: usize, row: &[u16; ROW_WORDS]) -> Che
             break 'search CheckerError::Nothing;
         }
         let u = words[place];
-        let reg = (u / 1024) as usize;
+        let reg = (u / REGISTER) as usize;
         let error = check_use(u, row[reg]);
         if is_error(error) {
             break 'search error;
@@ -252,8 +258,8 @@ fn define(rule: Rule, s: &mut State, operand: u16)
         Rule::Old => {}
         Rule::House => cells::overwrite(s, operand),
     }
-    let reg = (operand / 1024) as usize;
-    s[0][reg] = 3072 + operand % 1024;
+    let reg = (operand / REGISTER) as usize;
+    s[0][reg] = NAMED + operand % REGISTER;
 }
 
 // The defs in order.
@@ -290,7 +296,7 @@ fn change(rule: Rule, s: &mut State, slot: usize, from: u16, to: u16)
 // A step takes effect in the state that is lent.
 pub fn update(words: &[u16], rule: Rule, s: &mut State, action: Action)
     requires { ⌜ InRange row-widths (now words) action ⌝ }
-    ensures { λ r. ⌜ ((counts : List ℕ) → RowsFit counts → InRange counts (now (words .entry)) action → (ref : Name → Bool) → Honest ref (now (words .entry)) action → state-of counts (now (s .exit)) ≡ paper.effect rule ref (step-of (now (words .entry)) action) (state-of counts (now (s .entry)))) ⌝ }
+    ensures { λ r. ⌜ ((counts : List ℕ) → RowsFit counts → InRange counts (now (words .entry)) action → (ref : Name → Bool) → DefsMarked ref (now (words .entry)) action → state-of counts (now (s .exit)) ≡ paper.effect rule ref (step-of (now (words .entry)) action) (state-of counts (now (s .entry)))) ⌝ }
 {
     match action {
         Action::Copy { kind, into, from } => {
@@ -316,7 +322,7 @@ pub fn update(words: &[u16], rule: Rule, s: &mut State, action: Action)
 // The steps of a block, one after the other.
 pub fn effects(words: &[u16], rule: Rule, s: State, first: usize, count: usize) -> State
     requires { ⌜ Runnable row-widths (now words) first count ⌝ }
-    ensures { λ r. ⌜ ((counts : List ℕ) → Runnable counts (now (words .entry)) first count → (ref : Name → Bool) → HonestSteps ref (now (words .entry)) first count → state-of counts r ≡ paper.effects rule ref (steps-at (now (words .entry)) first count) (state-of counts s)) ⌝ }
+    ensures { λ r. ⌜ ((counts : List ℕ) → Runnable counts (now (words .entry)) first count → (ref : Name → Bool) → StepsMarked ref (now (words .entry)) first count → state-of counts r ≡ paper.effects rule ref (steps-at (now (words .entry)) first count) (state-of counts s)) ⌝ }
 {
     let mut t = s;
     let mut k = first;

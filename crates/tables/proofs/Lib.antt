@@ -1,2 +1,2 @@
 pub mod LawsFilled
-pub mod LawsThrough
+pub mod LawsResult

@@ -13,7 +13,7 @@ use Rattle.paper.specs.Walks.{In, here, there}
 use Rattle.layout.specs.Layout.{blocks-word, opened-word, succ-base}
 use Rattle.walks.specs.Choices.{in-nil}
 use Rattle.walks.specs.Bounds.{Closed}
-use Rattle.loaded.specs.Actions.{Runnable, HonestSteps}
+use Rattle.loaded.specs.Actions.{Runnable, StepsMarked}
 use Rattle.loaded.specs.Loaded.{first-step, step-total, succ-total, sheet-of, Loaded, counts-in}
 use Rattle.loaded.specs.Blocks.{succs-in-words, succs-beyond}
 use Rattle.loaded.specs.Allocated.{opened-block, in-range-at, honest-at}
@@ -53,5 +53,5 @@ module _ {words : List ℕ} (L : Loaded words) (b : ℕ) (h : b < getD words blo
     in-range = λ k hk lk. let z : first-step words b + (k - first-step words b) ≡ k = omega arith in rw z at (in-range-at L b h e (k - first-step words b) (omega arith));
   }
 
-  pub loaded-honest : HonestSteps (reference-typed (sheet-of words)) words (first-step words b) (step-total words b)
+  pub loaded-honest : StepsMarked (reference-typed (sheet-of words)) words (first-step words b) (step-total words b)
   loaded-honest k hk lk = let z : first-step words b + (k - first-step words b) ≡ k = omega arith in rw z at (honest-at L b h (k - first-step words b) (omega arith))

@@ -71,5 +71,5 @@ pub record Entered (b : ℕ) (s : List (List ℕ)) (before after : List ℕ) : T
       → Tables rule S after (update table b (state-of (counts-of S) s))
 
 -- the rows s are what block b makes of the state that it holds
-pub record Through (rule : Rule) (b : ℕ) (words : List ℕ) (s : List (List ℕ)) : Type 0 where
+pub record ResultOf (rule : Rule) (b : ℕ) (words : List ℕ) (s : List (List ℕ)) : Type 0 where
   pub is : (S : Sheet) → Holds S words → state-of (counts-of S) s ≡ effects rule (reference-typed S) (steps-of S b) (held-state S words b)

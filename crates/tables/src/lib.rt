@@ -11,7 +11,7 @@ ghost use Rattle.layout.specs.Layout.{blocks-word};
 ghost use Rattle.cells.specs.Meeting.{meet-table};
 ghost use Rattle.loaded.specs.Loaded.{sheet-of};
 ghost use Rattle.tables.specs.Held.{RunKept};
-ghost use Rattle.tables.specs.Table.{Ready, mark-of, Tables, Came, Entered, Through};
+ghost use Rattle.tables.specs.Table.{Ready, mark-of, Tables, Came, Entered, ResultOf};
 use cells::State;
 use layout::MARK_BASE;
 use layout::STATE_BASE;
@@ -68,9 +68,9 @@ pub fn join(table: &[[[u8; 4]; 4]; 2], rule: Rule, words: &mut [u16], b: usize, 
 }
 
 // What block b makes of the state that it holds.
-pub fn through(rule: Rule, words: &[u16], b: usize) -> State
+pub fn result_of(rule: Rule, words: &[u16], b: usize) -> State
     requires { ⌜ Ready (now words) × (missing-allocations (sheet-of (now words)) ≡ []) × (b < getD (now words) blocks-word 0) ⌝ }
-    ensures { λ r. ⌜ Through rule b (now (words .entry)) r ⌝ }
+    ensures { λ r. ⌜ ResultOf rule b (now (words .entry)) r ⌝ }
 {
     let s = cells::load(words, STATE_BASE + b * STATE_WORDS);
     let first = loaded::first_step(words, b);

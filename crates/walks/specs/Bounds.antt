@@ -12,7 +12,7 @@ use Rattle.paper.specs.Text.{Name, real, name-same}
 use Rattle.paper.specs.Sheet.{Sheet, succs-of, steps-of, reference-typed}
 use Rattle.paper.specs.Cells.{Cell, absent, unknown, conflicted, named, cell-same, pick, meet-names, old-meet, house-meet, meet, copied, overwritten, house-changed, collected}
 use Rattle.paper.specs.Steps.{State, counts-of, total, cell-count, unfilled, unreached-state, effects}
-use Rattle.paper.specs.Runs.{Run, both, meet-states, flow, before, begin, visit-bound}
+use Rattle.paper.specs.Runs.{Run, pointwise, meet-states, flow, before, begin, visit-bound}
 use Rattle.paper.specs.Walks.{In}
 use Rattle.paper.specs.declared.Rule.{Rule}
 use Rattle.paper.specs.declared.Rule.the-variants.{Old, House}
@@ -120,7 +120,7 @@ graded-cells House = record {
   kept = λ u x y. present-meet x y;
 }
 
-graded-states : (rule : Rule) → Graded (both (both (meet rule))) (Each (Row (Occurs rule))) (sum (sum (height rule))) (sum (sum (λ (u : Unit {0}). top rule)))
+graded-states : (rule : Rule) → Graded (pointwise (pointwise (meet rule))) (Each (Row (Occurs rule))) (sum (sum (height rule))) (sum (sum (λ (u : Unit {0}). top rule)))
 graded-states rule = graded-list (graded-list (graded-cells rule))
 
 sum-row : (n c : ℕ) → sum (λ (u : Unit {0}). c) (replicate n tt) ≡ c * n
@@ -174,9 +174,9 @@ pub record Closed (S : Sheet) : Type 0 where
   pub entry-in : S .entry < S .blocks
   pub succs-in : (b s : ℕ) → In s (succs-of S b) → s < S .blocks
 
-through-fits : (rule : Rule) (S : Sheet) (b : ℕ) (s : State) → Fits (Occurs rule) (shape S) s → Fits (Occurs rule) (shape S) (effects rule (reference-typed S) (steps-of S b) s)
-through-fits Old S b s f = old-fits-all (reference-typed S) (shape S) (steps-of S b) s f
-through-fits House S b s f = house-fits-all (present-keeps (reference-typed S)) (shape S) (steps-of S b) (λ inst k from to i. tt) s f
+result-fits : (rule : Rule) (S : Sheet) (b : ℕ) (s : State) → Fits (Occurs rule) (shape S) s → Fits (Occurs rule) (shape S) (effects rule (reference-typed S) (steps-of S b) s)
+result-fits Old S b s f = old-fits-all (reference-typed S) (shape S) (steps-of S b) s f
+result-fits House S b s f = house-fits-all (present-keeps (reference-typed S)) (shape S) (steps-of S b) (λ inst k from to i. tt) s f
 
 unfilled-occurs : (rule : Rule) → Occurs rule (unfilled rule)
 unfolding unfilled
@@ -195,7 +195,7 @@ ranked rule S C = record {
   high = λ a f. rw (← sum-shape S (top rule)) (graded-states rule .high (shape S) a f);
   lower = graded-states rule .falls (shape S);
   fit-meet = graded-states rule .kept (shape S);
-  fit-through = through-fits rule S;
+  fit-result = result-fits rule S;
   fit-first = fits-entry S rule (unfilled-occurs rule) (λ i. named-occurs rule (real i) false);
   entry-in = C .entry-in;
   succs-in = C .succs-in;

@@ -9,7 +9,7 @@ use Rattle.paper.specs.Text.{Name}
 use Rattle.paper.specs.Sheet.{Operand, Step, spill, reload, move, change, operation, safepoint, Sheet, listed, steps-of, reference-typed}
 use Rattle.paper.specs.Cells.{Cell, absent, named, meet, copied, overwritten, house-changed, collected}
 use Rattle.paper.specs.Steps.{State, Location, at, nowhere, register, slot, cell-at, store-at, get, put, location-of, copy, everywhere, safepoint-row, house-define, house-effect, effect, effects}
-use Rattle.paper.specs.Runs.{both, meet-states, flow}
+use Rattle.paper.specs.Runs.{pointwise, meet-states, flow}
 use Rattle.paper.specs.declared.Rule.{Rule}
 use Rattle.paper.specs.declared.Rule.the-variants.{House}
 use Rattle.walks.specs.Rows.{both-idem, both-comm, both-assoc, both-none, Spreads, both-map, both-placed, both-set, both-getD}
@@ -20,23 +20,23 @@ use Rattle.walks.specs.Flow.{Laws}
 module _ (rule : Rule) where
   pub states-idem : (s : State) → meet-states rule s s ≡ s
   unfolding meet-states
-  states-idem = both-idem (both (meet rule)) (both-idem (meet rule) (cell-idem rule))
+  states-idem = both-idem (pointwise (meet rule)) (both-idem (meet rule) (cell-idem rule))
 
   pub states-comm : (s t : State) → meet-states rule s t ≡ meet-states rule t s
   unfolding meet-states
-  states-comm = both-comm (both (meet rule)) (both-comm (meet rule) (cell-comm rule))
+  states-comm = both-comm (pointwise (meet rule)) (both-comm (meet rule) (cell-comm rule))
 
   pub states-assoc : (s t u : State) → meet-states rule (meet-states rule s t) u ≡ meet-states rule s (meet-states rule t u)
   unfolding meet-states
-  states-assoc = both-assoc (both (meet rule)) (both-assoc (meet rule) (cell-assoc rule))
+  states-assoc = both-assoc (pointwise (meet rule)) (both-assoc (meet rule) (cell-assoc rule))
 
   pub meet-laws : (S : Sheet) → Semilattice (flow rule S)
   unfolding flow
   meet-laws S = record { assoc = states-assoc; comm = states-comm; idem = states-idem }
 
-row-at : (s t : State) (r : ℕ) → getD (meet-states House s t) r [] ≡ both (meet House) (getD s r []) (getD t r [])
-unfolding meet-states both
-row-at s t r = both-getD (both (meet House)) [] (λ a. refl) (both-none (meet House)) s t r
+row-at : (s t : State) (r : ℕ) → getD (meet-states House s t) r [] ≡ pointwise (meet House) (getD s r []) (getD t r [])
+unfolding meet-states pointwise
+row-at s t r = both-getD (pointwise (meet House)) [] (λ a. refl) (both-none (meet House)) s t r
 
 cell-meet : (s t : State) (r i : ℕ) → cell-at (meet-states House s t) r i ≡ meet House (cell-at s r i) (cell-at t r i)
 cell-meet s t r i = rw (row-at s t r) (both-getD (meet House) absent absent-left absent-right (getD s r []) (getD t r []) i)
@@ -45,7 +45,7 @@ store-meet : (r i : ℕ) (x y : Cell) (s t : State) → store-at r i (meet House
 unfolding meet-states
 store-meet r i x y s t =
     rw (row-at s t r, both-set (meet House) (getD s r []) (getD t r []) i x y)
-    (both-set (both (meet House)) s t r (set (getD s r []) i x) (set (getD t r []) i y))
+    (both-set (pointwise (meet House)) s t r (set (getD s r []) i x) (set (getD t r []) i y))
 
 pub get-meet : (s t : State) (l : Location) → get (meet-states House s t) l ≡ meet House (get s l) (get t l)
 unfolding get
@@ -59,13 +59,13 @@ put-meet nowhere x y s t = refl
 
 everywhere-meet : (f : Cell → Cell) → Spreads (meet House) f → Spreads (meet-states House) (everywhere f)
 unfolding everywhere meet-states
-everywhere-meet f d = both-map (both (meet House)) (map f) (both-map (meet House) f d)
+everywhere-meet f d = both-map (pointwise (meet House)) (map f) (both-map (meet House) f d)
 
 copy-meet : (into from : Location) → Spreads (meet-states House) (copy into from)
 unfolding copy
 copy-meet into from s t = cc (get-meet s t from, copied-spreads (get s from) (get t from), put-meet into (copied (get s from)) (copied (get t from)) s t)
 
-collect-meet : (slots : List ℕ) (r : ℕ) → Spreads (both (meet House)) (safepoint-row House slots r)
+collect-meet : (slots : List ℕ) (r : ℕ) → Spreads (pointwise (meet House)) (safepoint-row House slots r)
 unfolding safepoint-row
 collect-meet slots zero = both-map (meet House) (collected House) collected-spreads
 collect-meet slots (suc zero) = both-placed (meet House) _ (λ i. listed-spreads (listed slots i))
@@ -97,7 +97,7 @@ module _ (ref : Name → Bool) where
         put-meet (slot k) (g (get s (slot k))) (g (get t (slot k))) (everywhere f s) (everywhere f t),
       )
   effect-distributes (operation inst uses defs) s t = define-meet defs s t
-  effect-distributes (safepoint inst slots) s t = both-placed (both (meet House)) (safepoint-row House slots) (collect-meet slots) s t
+  effect-distributes (safepoint inst slots) s t = both-placed (pointwise (meet House)) (safepoint-row House slots) (collect-meet slots) s t
 
   pub effects-distribute : (xs : List Step) → Spreads (meet-states House) (effects House ref xs)
   unfolding effects

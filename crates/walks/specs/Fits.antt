@@ -9,7 +9,7 @@ use lib.ListN.{length, getD, set, replicate, length-replicate, List·getD-map}
 use Rattle.paper.specs.Text.{Name, real}
 use Rattle.paper.specs.Sheet.{Operand, Step, spill, reload, move, change, operation, safepoint, Sheet, listed}
 use Rattle.paper.specs.Cells.{Cell, absent, unknown, named, copied, overwritten, house-changed, old-changed, collected}
-use Rattle.paper.specs.Steps.{State, counts-of, Location, at, nowhere, register, slot, cell-at, store-at, get, put, location-of, row-of, unfilled, unfilled-rows, entry-rows, entry-state, unreached-state, copy, everywhere, placed, safepoint-row, old-define, house-define, old-effect, house-effect, effect, effects}
+use Rattle.paper.specs.Steps.{State, counts-of, Location, at, nowhere, register, slot, cell-at, store-at, get, put, location-of, row-of, unfilled, unfilled-rows, entry-rows, entry-state, unreached-state, copy, everywhere, by-place, safepoint-row, old-define, house-define, old-effect, house-effect, effect, effects}
 use Rattle.paper.specs.Walks.{In, here, there}
 use Rattle.paper.specs.declared.Rule.{Rule}
 use Rattle.paper.specs.declared.Rule.the-variants.{Old, House}
@@ -109,7 +109,7 @@ module _ {P : Cell → Type 0} where
         go (inl e) = subst (λ (c : Cell). P (copied c)) (sym e) p
         go (inr q) = h (get s from) q
 
-    pub fits-collect : (rule : Rule) → ((c : Cell) → P c → P (collected rule c)) → (slots : List ℕ) (s : State) → Fits P sh s → Fits P sh (placed (safepoint-row rule slots) s)
+    pub fits-collect : (rule : Rule) → ((c : Cell) → P c → P (collected rule c)) → (slots : List ℕ) (s : State) → Fits P sh s → Fits P sh (by-place (safepoint-row rule slots) s)
     unfolding safepoint-row
     fits-collect rule h slots s f = each-placed (safepoint-row rule slots) (λ r is row. at r is row) f
       where

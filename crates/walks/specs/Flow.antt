@@ -16,7 +16,7 @@ use Rattle.walks.specs.Passing.{Semilattice, Covered, PassedOn, Passing,
 -- what the meet and the blocks' effects have to obey
 pub record Laws {A : Type 0} (F : Flow A) : Type 0 where
   pub meets : Semilattice F
-  pub distributes : (b : ℕ) (x y : A) → F .through b (F .meet x y) ≡ F .meet (F .through b x) (F .through b y)
+  pub distributes : (b : ℕ) (x y : A) → F .result b (F .meet x y) ≡ F .meet (F .result b x) (F .result b y)
 
 -- a state made from walks' states by finitely many meets
 pub data Meets {A : Type 0} (F : Flow A) (b : ℕ) : A → Type 0 where
@@ -39,17 +39,17 @@ module _ {A : Type 0} (F : Flow A) (L : Laws F) where
   below-meet : (x y z : A) → Below F x y → Below F x z → Below F x (F .meet y z)
   below-meet x y z p q = cc (L .meets .assoc x y z)
 
-  through-mono : (b : ℕ) (x y : A) → Below F x y → Below F (F .through b x) (F .through b y)
-  through-mono b x y p = cc (L .distributes b x y)
+  result-mono : (b : ℕ) (x y : A) → Below F x y → Below F (F .result b x) (F .result b y)
+  result-mono b x y p = cc (L .distributes b x y)
 
   pub meet-unique : (b : ℕ) (x y : A) → MeetOverWalks F b x → MeetOverWalks F b y → x ≡ y
   meet-unique b x y p q = cc (L .meets .comm x y, q .greatest x (p .lower), p .greatest y (q .lower))
 
-  meets-through : {b : ℕ} {a : A} (s : ℕ) → In s (F .succs b) → Meets F b a → Meets F s (F .through b a)
+  meets-result : {b : ℕ} {a : A} (s : ℕ) → In s (F .succs b) → Meets F b a → Meets F s (F .result b a)
   unfolding along
-  meets-through {b} s m (one w e) = one (then w m) (ap (F .through b) e)
-  meets-through {b} {a} s m (two {x} {y} p q e) =
-      two (meets-through s m p) (meets-through s m q) (sym (L .distributes b x y) ∙ ap (F .through b) e)
+  meets-result {b} s m (one w e) = one (then w m) (ap (F .result b) e)
+  meets-result {b} {a} s m (two {x} {y} p q e) =
+      two (meets-result s m p) (meets-result s m q) (sym (L .distributes b x y) ∙ ap (F .result b) e)
 
   above-meets : {b : ℕ} {a : A} (x : A) → ((w : Walk F b) → Below F x (along F w)) → Meets F b a → Below F x a
   above-meets x h (one w e) = subst (Below F x) e (h w)
@@ -115,17 +115,17 @@ module _ {A : Type 0} (F : Flow A) (L : Laws F) where
         go (inr j) = m j
 
     pub visit-good : (a : A) → r .table b ≡ some a → (ss : List ℕ) → ((s : ℕ) → In s (F .succs b) → In s ss) → ((s : ℕ) → In s ss → In s (F .succs b))
-        → Good F (spread F ss (F .through b a) (record { table = r .table; queue = rest }))
+        → Good F (spread F ss (F .result b a) (record { table = r .table; queue = rest }))
     visit-good a h ss all only =
         mid-good x (spread F ss x r′) (spread-mid ss x r′ (record {
           rooted = g .rooted;
           met = g .met;
           passing = visit-passing F (r .table) b a h ss all left (g .passed);
-          fresh = λ s i. meets-through s (only s i) (g .met b a h);
+          fresh = λ s i. meets-result s (only s i) (g .met b a h);
         }))
       where
         x : A
-        x = F .through b a
+        x = F .result b a
 
         r′ : Run A
         r′ = record { table = r .table; queue = rest }
@@ -165,7 +165,7 @@ module _ {A : Type 0} (F : Flow A) (L : Laws F) where
     walked (then {b} {s} w m) =
         let v = walked w in
         let u = g .passed .closed b (v .state) (v .holds) (λ i. in-nil (subst (In b) done i)) s m in
-        record { state = u .state; holds = u .holds; under = below-trans F (L .meets) (u .under) (through-mono b (v .state) (along F w) (v .under)) }
+        record { state = u .state; holds = u .holds; under = below-trans F (L .meets) (u .under) (result-mono b (v .state) (along F w) (v .under)) }
 
     pub is-meet : (b : ℕ) (a : A) → r .table b ≡ some a → MeetOverWalks F b a
     is-meet b a e = record { lower = λ w. low w (walked w); greatest = λ x h. above-meets x h (g .met b a e) }

@@ -7,8 +7,8 @@ use mathlib.Core.List.{List, [], _∷_, map}
 use Prim.Native.Nat.{ℕ, zero, suc, _+_, _≤_, _<_}
 use native.Mathlib.Omega.{arith}
 use lib.ListN.{length, getD, set}
-use Rattle.paper.specs.Runs.{both, list-same}
-use Rattle.paper.specs.Steps.{placed}
+use Rattle.paper.specs.Runs.{pointwise, list-same}
+use Rattle.paper.specs.Steps.{by-place}
 
 -- each element of the second list is what the first list's element at its place allows; so the two are equally long
 pub data Each {I A : Type 0} (P : I → A → Type 0) : List I → List A → Type 0 where
@@ -24,8 +24,8 @@ module _ {I A : Type 0} {P : I → A → Type 0} where
   each-map g h each-nil = each-nil
   each-map g h (each-cons {i} {x} p ps) = each-cons (h i x p) (each-map g h ps)
 
-  pub each-placed : (g : ℕ → A → A) → ((k : ℕ) (i : I) (x : A) → P i x → P i (g k x)) → {is : List I} {xs : List A} → Each P is xs → Each P is (placed g xs)
-  unfolding placed
+  pub each-placed : (g : ℕ → A → A) → ((k : ℕ) (i : I) (x : A) → P i x → P i (g k x)) → {is : List I} {xs : List A} → Each P is xs → Each P is (by-place g xs)
+  unfolding by-place
   each-placed g h each-nil = each-nil
   each-placed g h (each-cons {i} {x} p ps) = each-cons (h 0 i x p) (each-placed (λ k. g (suc k)) (λ k. h (suc k)) ps)
 
@@ -43,8 +43,8 @@ module _ {I A : Type 0} {P : I → A → Type 0} where
 
   -- two lists, place by place
   pub each-both : (m : A → A → A) → ((i : I) (x y : A) → P i x → P i y → P i (m x y)) → {is : List I} {a b : List A} → Each P is a → Each P is b
-      → Each P is (both m a b)
-  unfolding both
+      → Each P is (pointwise m a b)
+  unfolding pointwise
   each-both m h each-nil each-nil = each-nil
   each-both m h (each-cons {i} {x} p ps) (each-cons {x = y} q qs) = each-cons (h i x y p q) (each-both m h ps qs)
 
@@ -77,17 +77,17 @@ module _ {I A : Type 0} {m : A → A → A} {P : I → A → Type 0} {height : A
       go (yes e) = omega (arith, ap height e)
       go (no n) = omega (arith, G .falls i x y p q n)
 
-  both-under : {is : List I} {a b : List A} → Each P is a → Each P is b → sum height (both m a b) ≤ sum height a
-  unfolding both sum
+  both-under : {is : List I} {a b : List A} → Each P is a → Each P is b → sum height (pointwise m a b) ≤ sum height a
+  unfolding pointwise sum
   both-under each-nil each-nil = omega arith
   both-under (each-cons {i} {x} p ps) (each-cons {x = y} q qs) = omega (arith, under i x y p q, both-under ps qs)
 
-  both-falls : {is : List I} {a b : List A} → Each P is a → Each P is b → ¬ (both m a b ≡ a) → sum height (both m a b) < sum height a
-  unfolding both sum
+  both-falls : {is : List I} {a b : List A} → Each P is a → Each P is b → ¬ (pointwise m a b ≡ a) → sum height (pointwise m a b) < sum height a
+  unfolding pointwise sum
   both-falls each-nil each-nil n = absurd (n refl)
   both-falls (each-cons {i} {x} {xs = a} p ps) (each-cons {x = y} {xs = b} q qs) n = go (G .same (m x y) x) (both-falls ps qs)
     where
-      go : Dec (m x y ≡ x) → (¬ (both m a b ≡ a) → sum height (both m a b) < sum height a) → height (m x y) + sum height (both m a b) < height x + sum height a
+      go : Dec (m x y ≡ x) → (¬ (pointwise m a b ≡ a) → sum height (pointwise m a b) < sum height a) → height (m x y) + sum height (pointwise m a b) < height x + sum height a
       go (yes e) rec = omega (arith, ap height e, rec (λ f. n (cc)))
       go (no f) rec = omega (arith, G .falls i x y p q f, both-under ps qs)
 
@@ -97,7 +97,7 @@ module _ {I A : Type 0} {m : A → A → A} {P : I → A → Type 0} {height : A
   sum-high (each-cons {i} {x} p ps) = omega (arith, G .high i x p, sum-high ps)
 
   -- what holds of elements holds of lists of them
-  pub graded-list : Graded (both m) (Each P) (sum height) (sum top)
+  pub graded-list : Graded (pointwise m) (Each P) (sum height) (sum top)
   graded-list = record {
     same = list-same (G .same);
     high = λ is a. sum-high;

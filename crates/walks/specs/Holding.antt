@@ -11,7 +11,7 @@ use lib.Seq.{getD-set-other}
 use Rattle.paper.specs.Text.{Name, name-same}
 use Rattle.paper.specs.Sheet.{safepoint, listed}
 use Rattle.paper.specs.Cells.{Cell, absent, unknown, conflicted, named, pick, copied, overwritten, house-changed, collected}
-use Rattle.paper.specs.Steps.{State, Location, at, nowhere, slot, cell-at, store-at, get, put, everywhere, placed, safepoint-row, house-effect, effect}
+use Rattle.paper.specs.Steps.{State, Location, at, nowhere, slot, cell-at, store-at, get, put, everywhere, by-place, safepoint-row, house-effect, effect}
 use Rattle.paper.specs.declared.Rule.the-variants.{House}
 use Rattle.walks.specs.Rows.{getD-placed}
 
@@ -111,12 +111,12 @@ get-everywhere f e s nowhere = sym e
 -- what a safepoint leaves of a cell in a row that it lists nothing of, and of a slot that it lists or does not
 module _ (ref : Name → Bool) (inst : ℕ) (slots : List ℕ) (s : State) (i : ℕ) where
   no-row : (r : ℕ) → safepoint-row House slots r [] ≡ []
-  unfolding safepoint-row placed
+  unfolding safepoint-row by-place
   no-row zero = refl
   no-row (suc zero) = refl
   no-row (suc (suc r)) = refl
 
-  row-collected : (r : ℕ) → getD (placed (safepoint-row House slots) s) r [] ≡ safepoint-row House slots r (getD s r [])
+  row-collected : (r : ℕ) → getD (by-place (safepoint-row House slots) s) r [] ≡ safepoint-row House slots r (getD s r [])
   row-collected r = getD-placed (safepoint-row House slots) [] no-row s r
 
   pub get-unlisted : (r : ℕ) → safepoint-row House slots r (getD s r []) ≡ map (collected House) (getD s r []) → get (effect House ref (safepoint inst slots) s) (at r i) ≡ collected House (get s (at r i))

@@ -122,7 +122,7 @@ module _ (S : Sheet) (C : Closed S) (T : Typed S) where
     high = λ a f. rw (← sum-shape S 2) (graded-list (graded-list (graded (reference-typed S))) .high (shape S) a f);
     lower = graded-list (graded-list (graded (reference-typed S))) .falls (shape S);
     fit-meet = graded-list (graded-list (graded (reference-typed S))) .kept (shape S);
-    fit-through = λ b. house-fits-all (proper-keeps (reference-typed S)) (shape S) (steps-of S b) (T .changes b);
+    fit-result = λ b. house-fits-all (proper-keeps (reference-typed S)) (shape S) (steps-of S b) (T .changes b);
     fit-first = fits-entry S House tt (λ i. unfold reference-typed in refl);
     entry-in = C .entry-in;
     succs-in = C .succs-in;
@@ -131,7 +131,7 @@ module _ (S : Sheet) (C : Closed S) (T : Typed S) where
   pub walk-proper : {b : ℕ} (w : HouseWalk S b) → Fits (Proper (reference-typed S)) (shape S) (along (flow House S) w)
   unfolding ranked along
   walk-proper start = ranked .fit-first
-  walk-proper (then {b} w follows) = ranked .fit-through b (along (flow House S) w) (walk-proper w)
+  walk-proper (then {b} w follows) = ranked .fit-result b (along (flow House S) w) (walk-proper w)
 
   pub meets-proper : {b : ℕ} {s : State} → Meets (flow House S) b s → Fits (Proper (reference-typed S)) (shape S) s
   unfolding ranked

@@ -18,7 +18,7 @@ module _ {A : Type 0} (F : Flow A) where
     serve : {r₁ : Run A} (b : ℕ) (a : A) (rest ss : List ℕ) → r₁ .table b ≡ some a
         → ((c : ℕ) → In c (r₁ .queue) → (c ≡ b) ⊎ In c rest)
         → ((s : ℕ) → In s (F .succs b) → In s ss) → ((s : ℕ) → In s ss → In s (F .succs b))
-        → Served r r₁ → Served r (spread F ss (F .through b a) (record { table = r₁ .table; queue = rest }))
+        → Served r r₁ → Served r (spread F ss (F .result b a) (record { table = r₁ .table; queue = rest }))
 
   -- the waiting blocks without the first b
   unfoldable pub without : ℕ → List ℕ → List ℕ

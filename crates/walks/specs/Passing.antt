@@ -24,12 +24,12 @@ pub record Covered {A : Type 0} (F : Flow A) (table : ℕ → Option A) (s : ℕ
 
 -- each block that is done has passed its state on
 pub record PassedOn {A : Type 0} (F : Flow A) (Done : ℕ → Type 0) (table : ℕ → Option A) : Type 0 where
-  pub closed : (b : ℕ) (a : A) → table b ≡ some a → Done b → (s : ℕ) → In s (F .succs b) → Covered F table s (F .through b a)
+  pub closed : (b : ℕ) (a : A) → table b ≡ some a → Done b → (s : ℕ) → In s (F .succs b) → Covered F table s (F .result b a)
 
 -- in the middle of a visit: it has, or what it makes of its state is x, which has still to be passed on to the pending blocks
 pub record Passing {A : Type 0} (F : Flow A) (Done : ℕ → Type 0) (x : A) (pending : List ℕ) (table : ℕ → Option A) : Type 0 where
   pub closed : (b : ℕ) (a : A) → table b ≡ some a → Done b → (s : ℕ) → In s (F .succs b)
-      → Covered F table s (F .through b a) ⊎ (In s pending × (F .through b a ≡ x))
+      → Covered F table s (F .result b a) ⊎ (In s pending × (F .result b a ≡ x))
 
 module _ {A : Type 0} (F : Flow A) (M : Semilattice F) where
   pub below-trans : {x y z : A} → Below F x y → Below F y z → Below F x z
@@ -58,24 +58,24 @@ module _ {A : Type 0} (F : Flow A) (M : Semilattice F) where
         t′ : ℕ → Option A
         t′ = update table s y
 
-        closed : (b : ℕ) (a : A) → t′ b ≡ some a → Left b → (c : ℕ) → In c (F .succs b) → Covered F t′ c (F .through b a) ⊎ (In c ss × (F .through b a ≡ x))
+        closed : (b : ℕ) (a : A) → t′ b ≡ some a → Left b → (c : ℕ) → In c (F .succs b) → Covered F t′ c (F .result b a) ⊎ (In c ss × (F .result b a ≡ x))
         closed b a e l c i = go (g .closed b a (sym (update-other table s y b (ns b l)) ∙ e) (done b l) c i)
           where
-            go : Covered F table c (F .through b a) ⊎ (In c (s ∷ ss) × (F .through b a ≡ x)) → Covered F t′ c (F .through b a) ⊎ (In c ss × (F .through b a ≡ x))
-            go (inl v) = inl (covered-update c (F .through b a) v)
+            go : Covered F table c (F .result b a) ⊎ (In c (s ∷ ss) × (F .result b a ≡ x)) → Covered F t′ c (F .result b a) ⊎ (In c ss × (F .result b a ≡ x))
+            go (inl v) = inl (covered-update c (F .result b a) v)
             go (inr (here p, h)) = inl (record { state = y; holds = ap t′ p ∙ update-same table s y; under = subst (Below F y) (sym h) yx })
             go (inr (there m, h)) = inr (m, h)
 
 module _ {A : Type 0} (F : Flow A) (table : ℕ → Option A) where
   -- block b is visited: what it makes of its state is to be passed on to ss, where its successors are
   pub visit-passing : {Done Left : ℕ → Type 0} (b : ℕ) (a : A) → table b ≡ some a → (ss : List ℕ) → ((s : ℕ) → In s (F .succs b) → In s ss) → ((c : ℕ) → ¬ (c ≡ b) → Left c → Done c)
-      → PassedOn F Done table → Passing F Left (F .through b a) ss table
+      → PassedOn F Done table → Passing F Left (F .result b a) ss table
   visit-passing {Left = Left} b a h ss all done g = record { closed = closed }
     where
-      closed : (c : ℕ) (d : A) → table c ≡ some d → Left c → (s : ℕ) → In s (F .succs c) → Covered F table s (F .through c d) ⊎ (In s ss × (F .through c d ≡ F .through b a))
+      closed : (c : ℕ) (d : A) → table c ≡ some d → Left c → (s : ℕ) → In s (F .succs c) → Covered F table s (F .result c d) ⊎ (In s ss × (F .result c d ≡ F .result b a))
       closed c d k l s i = go (ℕ-discrete c b)
         where
-          go : Dec (c ≡ b) → Covered F table s (F .through c d) ⊎ (In s ss × (F .through c d ≡ F .through b a))
+          go : Dec (c ≡ b) → Covered F table s (F .result c d) ⊎ (In s ss × (F .result c d ≡ F .result b a))
           go (yes p) = inr (all s (subst (λ (e : ℕ). In s (F .succs e)) p i), cc (some-inj h (ap table (sym p) ∙ k)))
           go (no n) = inl (g .closed c d k (done c n l) s i)
 

@@ -27,7 +27,7 @@ module _ {A : Type 0} (F : Flow A) where
 
   -- a visit, push by push
   pub step-visit : (r : Run A) (b : ℕ) (queue : List ℕ) (a : A) → r .queue ≡ b ∷ queue → r .table b ≡ some a
-      → step F r ≡ spread F (F .succs b) (F .through b a) (record { table = r .table; queue = queue })
+      → step F r ≡ spread F (F .succs b) (F .result b a) (record { table = r .table; queue = queue })
   unfolding step step-at visit-at
   step-visit r b queue a e f =
       ap (λ (q : List ℕ). step-at F q r) e ∙ ap (λ (o : Option A). visit-at F o b (record { table = r .table; queue = queue })) f

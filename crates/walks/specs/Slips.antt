@@ -9,8 +9,8 @@ use lib.ListN.{length}
 use Rattle.paper.specs.Text.{Name, real, virtual as v, name-same}
 use Rattle.paper.specs.Sheet.{Operand, Step, spill, reload, move, change, operation, safepoint, Block, Sheet, succs-of, steps-of, listed, reference-typed}
 use Rattle.paper.specs.Cells.{Cell, absent, unknown, conflicted, named, pick, old-meet, house-meet, overwritten, house-changed, collected}
-use Rattle.paper.specs.Steps.{State, register, slot, get, put, location-of, entry-state, unreached-state, Fault, unknown-value-in-reg, check, copy, everywhere, placed, safepoint-row, house-define, house-effect, effect}
-use Rattle.paper.specs.Runs.{Flow, Run, update, run, both, state-same, visit-bound, entered}
+use Rattle.paper.specs.Steps.{State, register, slot, get, put, location-of, entry-state, unreached-state, Fault, unknown-value-in-reg, check, copy, everywhere, by-place, safepoint-row, house-define, house-effect, effect}
+use Rattle.paper.specs.Runs.{Flow, Run, update, run, pointwise, state-same, visit-bound, entered}
 use Rattle.paper.specs.Report.{faults}
 use Rattle.paper.specs.Programs.{World, original-run, allocated-run}
 use Rattle.paper.specs.declared.Rule.the-variants.{House}
@@ -34,7 +34,7 @@ module _ (how : Variant) where
 
   unfoldable pub row-by : List ℕ → ℕ → List Cell → List Cell
   row-by slots zero row = map (collected House) row
-  row-by slots (suc zero) row = placed (λ i c. cond (listed slots i) c (how .unlisted c)) row
+  row-by slots (suc zero) row = by-place (λ i c. cond (listed slots i) c (how .unlisted c)) row
   row-by slots (suc (suc r)) row = map (collected House) row
 
   unfoldable pub effect-by : (Name → Bool) → Step → State → State
@@ -43,7 +43,7 @@ module _ (how : Variant) where
   effect-by ref (move into from) s = copy (register into) (register from) s
   effect-by ref (change inst k from to) s = put (slot k) (house-changed from to (get s (slot k))) (everywhere (how .at-change to) s)
   effect-by ref (operation inst uses defs) s = define-by ref defs s
-  effect-by ref (safepoint inst slots) s = placed (row-by slots) s
+  effect-by ref (safepoint inst slots) s = by-place (row-by slots) s
 
   unfoldable pub effects-by : (Name → Bool) → List Step → State → State
   effects-by ref [] s = s
@@ -56,10 +56,10 @@ module _ (how : Variant) where
 
   unfoldable pub flow-by : Sheet → Flow State
   flow-by S = record {
-    meet = both (both (how .meet));
+    meet = pointwise (pointwise (how .meet));
     same = state-same;
     succs = succs-of S;
-    through = λ b. effects-by (reference-typed S) (steps-of S b);
+    result = λ b. effects-by (reference-typed S) (steps-of S b);
     entry = S .entry;
     first = entry-state House S;
   }
@@ -99,7 +99,7 @@ house-effects ref (reload r k) s = refl
 house-effects ref (move into from) s = refl
 house-effects ref (change inst k from to) s = refl
 house-effects ref (operation inst uses defs) s = house-defines ref defs s
-house-effects ref (safepoint inst slots) s = ap (λ (f : ℕ → List Cell → List Cell). placed f s) (house-rows slots)
+house-effects ref (safepoint inst slots) s = ap (λ (f : ℕ → List Cell → List Cell). by-place f s) (house-rows slots)
 
 -- v1 alone is reference-typed
 abbrev pub sheet-of : ℕ → ℕ → List Block → Sheet

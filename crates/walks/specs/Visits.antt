@@ -22,7 +22,7 @@ pub record Ranked {A : Type 0} (F : Flow A) (n h : ℕ) : Type 1 where
   pub high : (a : A) → Fit a → rank a ≤ h
   pub lower : (a x : A) → Fit a → Fit x → ¬ (F .meet a x ≡ a) → rank (F .meet a x) < rank a
   pub fit-meet : (a x : A) → Fit a → Fit x → Fit (F .meet a x)
-  pub fit-through : (b : ℕ) (a : A) → Fit a → Fit (F .through b a)
+  pub fit-result : (b : ℕ) (a : A) → Fit a → Fit (F .result b a)
   pub fit-first : Fit (F .first)
   pub entry-in : F .entry < n
   pub succs-in : (b s : ℕ) → In s (F .succs b) → s < n
@@ -119,9 +119,9 @@ module _ {A : Type 0} {F : Flow A} {n h : ℕ} (R : Ranked F n h) where
 
     -- inside a visit of b: after the pushes to the first successors
     pub within-visit : {k : ℕ} {r : Run A} (b : ℕ) (q : List ℕ) (a : A) (pushed rest : List ℕ) → r .queue ≡ b ∷ q → r .table b ≡ some a → F .succs b ≡ pushed ++ rest
-        → Within bound k r → Within bound (suc k) (spread F pushed (F .through b a) (record { table = r .table; queue = q }))
+        → Within bound k r → Within bound (suc k) (spread F pushed (F .result b a) (record { table = r .table; queue = q }))
     within-visit {r} b q a pushed rest e f d g =
-        within-spread pushed (F .through b a) _ (λ s i. R .succs-in b s (subst (In s) (sym d) (in-left rest i))) (R .fit-through b a (g .fit b a f)) (within-take b q e g)
+        within-spread pushed (F .result b a) _ (λ s i. R .succs-in b s (subst (In s) (sym d) (in-left rest i))) (R .fit-result b a (g .fit b a f)) (within-take b q e g)
 
     -- a whole visit
     pub within-step : {k : ℕ} {r : Run A} (b : ℕ) (q : List ℕ) → r .queue ≡ b ∷ q → Within bound k r → Within bound (suc k) (step F r)

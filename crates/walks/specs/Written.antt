@@ -15,7 +15,7 @@ use Rattle.paper.specs.Limits.{max-operands, max-steps}
 use Rattle.paper.specs.Sheet.{Operand, Step, spill, reload, move, change, operation, safepoint, Block, Sheet, no-block, steps-of, reference-typed}
 use Rattle.paper.specs.Cells.{Cell, absent, unknown, conflicted, named, pick, old-meet, meet, copied, overwritten, house-changed, old-changed, collected}
 use Rattle.paper.specs.Steps.{State, counts-of, Location, register, slot, get, location-of, row-of, unfilled, entry-rows, entry-state, unreached-state, Fault, incorrect-value-in-reg, incorrect-value-in-slot, first-of, check-use, check-uses, check-change, check-slot, check-slots, check, old-define, house-define, old-effect, house-effect, effect, effects}
-use Rattle.paper.specs.Runs.{Flow, Run, store, push-at, push, spread, visit-at, step-at, step, run, both, meet-states, flow, before, begin, visit-bound, analysis, entered, checked-from}
+use Rattle.paper.specs.Runs.{Flow, Run, store, push-at, push, spread, visit-at, step-at, step, run, pointwise, meet-states, flow, before, begin, visit-bound, analysis, entered, checked-from}
 use Rattle.paper.specs.Report.{Line, inst-of, line-of, faults-from, block-faults, by-block, find-errors, first-list, unallocated, missing-names, names-lines, missing-from, missing-blocks, missing-allocations, faults}
 use Rattle.paper.specs.Refusals.{step-count, loaded, read}
 use Rattle.paper.specs.Walks.{In, here, there}
@@ -30,7 +30,7 @@ use Rattle.walks.specs.Small.{Small, SmallName, SmallReg, SmallFault, Sm
 use Rattle.walks.specs.Reading.{read-few, read-limited, read-small}
 
 -- of any dataflow problem: what the meet and the blocks keep holds of every state in the table, if it did at the start
-module _ {A : Type 0} (F : Flow A) (P : A → Type 0) (meets : (a x : A) → P a → P x → P (F .meet a x)) (goes : (b : ℕ) (a : A) → P a → P (F .through b a)) where
+module _ {A : Type 0} (F : Flow A) (P : A → Type 0) (meets : (a x : A) → P a → P x → P (F .meet a x)) (goes : (b : ℕ) (a : A) → P a → P (F .result b a)) where
   abbrev Holds : (ℕ → Option A) → Type 0
   Holds table = (b : ℕ) (a : A) → table b ≡ some a → P a
 
@@ -61,7 +61,7 @@ module _ {A : Type 0} (F : Flow A) (P : A → Type 0) (meets : (a x : A) → P a
     where
       visited : (b : ℕ) (q : List ℕ) (o : Option A) → r .table b ≡ o → Holds ((visit-at F o b (record { table = r .table; queue = q })) .table)
       visited b q none e = h
-      visited b q (some a) e = holds-spread (F .succs b) (F .through b a) (goes b a (h b a e)) (record { table = r .table; queue = q }) h
+      visited b q (some a) e = holds-spread (F .succs b) (F .result b a) (goes b a (h b a e)) (record { table = r .table; queue = q }) h
 
       at : (q : List ℕ) → Holds ((step-at F q r) .table)
       at [] = h
@@ -137,7 +137,7 @@ small-meet House x y p q = meet-keeps SmallCell (small-names House) x y p q
 
 small-states : (rule : Rule) (sh : Shape) (s t : State) → Fits SmallCell sh s → Fits SmallCell sh t → Fits SmallCell sh (meet-states rule s t)
 unfolding meet-states
-small-states rule sh s t f g = each-both (both (meet rule)) (λ is a b. each-both (meet rule) (λ u. small-meet rule)) f g
+small-states rule sh s t f g = each-both (pointwise (meet rule)) (λ is a b. each-both (meet rule) (λ u. small-meet rule)) f g
 
 small-get : (sh : Shape) (l : Location) (s : State) → Fits SmallCell sh s → SmallCell (get s l)
 small-get sh l s f = go (fits-get sh l s f)

@@ -36,8 +36,8 @@ judged l so p h t =
     let n = f .before .before in
     judged-by
     (change-tested (start-of (read-of l) .pre .2) _ _ _ _ (n .before .name-beyond .ensures) (n .name-beyond2 .ensures) (p _) h t
-    (f .before .refers .ensures)
-    (f .refers2 .ensures))
+    (f .before .is-typed .ensures)
+    (f .is-typed2 .ensures))
     (l .lowest .ensures)
 
 -- where it passes the values are within the counts
@@ -66,11 +66,11 @@ name-beyond-requires c κs = search needs
 name-beyond-requires-2 : tie.Need-name-beyond-requires-2
 name-beyond-requires-2 c κs = search needs
 
-refers-requires : tie.Need-refers-requires
-refers-requires c κs = search needs
+is-typed-requires : tie.Need-is-typed-requires
+is-typed-requires c κs = search needs
 
-refers-requires-2 : tie.Need-refers-requires-2
-refers-requires-2 c κs = search needs
+is-typed-requires-2 : tie.Need-is-typed-requires-2
+is-typed-requires-2 c κs = search needs
 
 lowest-requires : tie.Need-lowest-requires
 lowest-requires c κs = search needs
@@ -120,8 +120,8 @@ change-line-spec =
     returns
     name-beyond-requires
     name-beyond-requires-2
-    refers-requires
-    refers-requires-2
+    is-typed-requires
+    is-typed-requires-2
     lowest-requires
     enum-known-judged
     enum-told-2

@@ -1,4 +1,4 @@
--- `take` meets its contract: what the ring holds is the block at its head, then what it holds from the next place on.
+-- `take` meets its contract: what the ring holds is the block at its front, then what it holds from the next place on.
 use borrow.Author.Needs.{needs}
 use Rattle.runs.proofs.LawsQueue.{take-is}
 use Rattle.runs.proofs.take.Statement.{statement}

@@ -8,7 +8,7 @@ use native.Mathlib.Omega.{arith}
 use borrow.Author.Needs.{needs}
 use Rattle.paper.specs.Text.{Name}
 use Rattle.cells.specs.States.{state-of}
-use Rattle.loaded.specs.Actions.{steps-at, InRange, Runnable, HonestSteps}
+use Rattle.loaded.specs.Actions.{steps-at, InRange, Runnable, StepsMarked}
 use Rattle.steps.proofs.LawsEffects.{no-step, next-step}
 use Rattle.steps.proofs.effects.Statement.{statement}
 use Rattle.paper.specs.Steps as paper
@@ -17,7 +17,7 @@ use Rattle.steps.proofs.effects.Tie as tie
 abbrev Inv-loop : tie.InvT-loop
 Inv-loop words rule first count t₀ k₀ left₀ t k left =
     (k + left ≡ first + count) × (first ≤ k)
-    × ((counts : List ℕ) → Runnable counts words first count → (ref : Name → Bool) → HonestSteps ref words first count
+    × ((counts : List ℕ) → Runnable counts words first count → (ref : Name → Bool) → StepsMarked ref words first count
     → paper.effects rule ref (steps-at words k left) (state-of counts t) ≡ paper.effects rule ref (steps-at words first count) (state-of counts t₀))
 
 abbrev μ-loop : tie.MeasureT-loop

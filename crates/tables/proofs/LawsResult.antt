@@ -10,21 +10,21 @@ use Rattle.paper.specs.Steps.{effects, counts-of}
 use Rattle.paper.specs.declared.Rule.{Rule}
 use Rattle.layout.specs.Layout.{blocks-word, state-at}
 use Rattle.cells.specs.States.{state-of, stored-state, RowsFit}
-use Rattle.loaded.specs.Actions.{steps-at, Runnable, HonestSteps}
+use Rattle.loaded.specs.Actions.{steps-at, Runnable, StepsMarked}
 use Rattle.loaded.specs.Loaded.{first-step, step-total, sheet-of, counts-in}
 use Rattle.tables.specs.Held.{held-state}
 use Rattle.loaded.specs.Blocks.{steps-in-words}
 use Rattle.tables.specs.Allowed.{loaded-honest}
-use Rattle.tables.specs.Table.{Ready, Through}
+use Rattle.tables.specs.Table.{Ready, ResultOf}
 
-pub through-is : {rule : Rule} {words : List ℕ} {b : ℕ} (s : List (List ℕ)) {t : List (List ℕ)} → Ready words → b < getD words blocks-word 0
+pub result-is : {rule : Rule} {words : List ℕ} {b : ℕ} (s : List (List ℕ)) {t : List (List ℕ)} → Ready words → b < getD words blocks-word 0
     → ((counts : List ℕ) → RowsFit counts → state-of counts s ≡ stored-state counts (state-at b) words)
     → ((counts : List ℕ) → Runnable counts words (first-step words b) (step-total words b) → (ref : Name → Bool)
-    → HonestSteps ref words (first-step words b) (step-total words b)
+    → StepsMarked ref words (first-step words b) (step-total words b)
     → state-of counts t ≡ effects rule ref (steps-at words (first-step words b) (step-total words b)) (state-of counts s))
     → Runnable (counts-in words) words (first-step words b) (step-total words b)
-    → Through rule b words t
-through-is {rule} {words} {b} s {t} ready h loaded ran runs = record { is = λ S e. subst (λ (S : Sheet). state-of (counts-of S) t ≡ effects rule (reference-typed S) (steps-of S b) (held-state S words b)) (e .is) here }
+    → ResultOf rule b words t
+result-is {rule} {words} {b} s {t} ready h loaded ran runs = record { is = λ S e. subst (λ (S : Sheet). state-of (counts-of S) t ≡ effects rule (reference-typed S) (steps-of S b) (held-state S words b)) (e .is) here }
   where
     here : state-of (counts-of (sheet-of words)) t ≡ effects rule (reference-typed (sheet-of words)) (steps-of (sheet-of words) b) (held-state (sheet-of words) words b)
     here =

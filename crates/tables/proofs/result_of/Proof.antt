@@ -1,4 +1,4 @@
--- `through` meets its contract: the words hold block b's state and the sheet's steps of b, and `effects` runs these from it; where
+-- `result_of` meets its contract: the words hold block b's state and the sheet's steps of b, and `effects` runs these from it; where
 -- no allocation is missing, a loaded sheet's steps can be run.
 use Prim.Native.Nat.{_+_, _*_}
 use native.Mathlib.Omega.{arith}
@@ -8,9 +8,9 @@ use Rattle.loaded.specs.Actions.{Runnable}
 use Rattle.loaded.specs.Laws.{runnable-most}
 use Rattle.loaded.specs.Loaded.{first-step, step-total, counts-in}
 use Rattle.tables.specs.Allowed.{loaded-runnable}
-use Rattle.tables.proofs.LawsThrough.{through-is}
-use Rattle.tables.proofs.through.Statement.{statement}
-use Rattle.tables.proofs.through.Tie as tie
+use Rattle.tables.proofs.LawsResult.{result-is}
+use Rattle.tables.proofs.result_of.Statement.{statement}
+use Rattle.tables.proofs.result_of.Tie as tie
 
 mul-load : tie.Need-mul-load
 mul-load c = search needs
@@ -43,10 +43,10 @@ returns c =
     let f = n .before in
     let l = f .before in
     let a = l .before .before in
-    through-is _ (a .pre .0) (a .pre .2) (l .load .ensures) (rw (f .first-step .ensures, n .step-total .ensures) at (c .effects .ensures)) (can-run a)
+    result-is _ (a .pre .0) (a .pre .2) (l .load .ensures) (rw (f .first-step .ensures, n .step-total .ensures) at (c .effects .ensures)) (can-run a)
 
-pub through-spec : {M : Type 1} → statement M
-through-spec =
+pub result-of-spec : {M : Type 1} → statement M
+result-of-spec =
     tie.close
     (tie.spec
     mul-load
