@@ -26,7 +26,7 @@ use Rattle.fields.specs.declared.End as End
 use Rattle.fields.specs.declared.End.the-variants as end
 use Rattle.fields.proofs.End.{the-type}
 use Rattle.paper.specs.Comparison.{Shape, same-text, a-number, a-name, lettered, fits, fault-shape, line-shapes, well-shaped, past, a-rule, count-of, pieces, bad-from, bad-behind, bad-first, bad-line, parting, refused-or, compared}
-use Rattle.compare.specs.Places.{shape-of, shapes-of, codes-of-lines, place-told, field-place, behind-place, line-place, header-told, Within}
+use Rattle.compare.specs.Places.{shape-of, shapes-of, codes-of-lines, place-told, field-place, behind-place, line-place, header-told, PlaceWithin}
 use Rattle.compare.specs.declared.Place.{Place}
 use Rattle.compare.specs.declared.Place.the-variants.{At, Bad}
 use Rattle.paper.specs.declared.Compared.{Compared}
@@ -99,7 +99,7 @@ module _ (shape : Shape) (s : Bytes) (at : ℕ) where
   unfolding behind-place field-place
   behind-tab e q = q ∙ rw (eq-eqb (getD s at 0) tab e)
 
-pub within-before : (s : Bytes) (at : ℕ) (p : Place) → Within s (at + 1) p → Within s at p
+pub within-before : (s : Bytes) (at : ℕ) (p : Place) → PlaceWithin s (at + 1) p → PlaceWithin s at p
 within-before s at Bad w = tt
 within-before s at (At next) w = (omega (arith, w .0), w .1)
 

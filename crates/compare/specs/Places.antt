@@ -64,9 +64,9 @@ unfoldable pub header-told : Bytes → Number
 header-told s = number-told (line-end s 0) (cond (eqb (getD s (line-end s 0) 0) line-feed) (count-of (fields (line-at s 0))) none)
 
 -- a place behind a field is inside the report, that of a line feed too
-abbrev pub Within : Bytes → ℕ → Place → Type 0
-Within s at Bad = Unit {0}
-Within s at (At next) = (at ≤ next) × (next ≤ length s)
+abbrev pub PlaceWithin : Bytes → ℕ → Place → Type 0
+PlaceWithin s at Bad = Unit {0}
+PlaceWithin s at (At next) = (at ≤ next) × (next ≤ length s)
 
 abbrev pub LineWithin : Bytes → ℕ → Place → Type 0
 LineWithin s at Bad = Unit {0}

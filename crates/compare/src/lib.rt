@@ -6,7 +6,7 @@ ghost use lib.ListN.{length};
 ghost use Rattle.paper.specs.Text.{fields};
 ghost use Rattle.fields.specs.Fields.{ends-field, line-at};
 ghost use Rattle.paper.specs.Comparison.{same-text, a-number, a-name, a-rule, lettered, fits, well-shaped, bad-line, parting, pieces, compared, longer, rest-place};
-ghost use Rattle.compare.specs.Places.{shape-of, shapes-of, field-place, behind-place, line-place, header-told, Within, LineWithin, HeaderWithin, ComparedWithin, PartOf, Handed, judgement-of};
+ghost use Rattle.compare.specs.Places.{shape-of, shapes-of, field-place, behind-place, line-place, header-told, PlaceWithin, LineWithin, HeaderWithin, ComparedWithin, PartOf, Handed, judgement-of};
 ghost use mathlib.Core.List.{[], _∷_};
 ghost use Rattle.lists.specs.Sets.{Wrote};
 ghost use Rattle.compare.specs.Written.{parted-text, malformed-text, compared-text, longest-text, no-room, Told};
@@ -63,7 +63,7 @@ const SHAPES: [[u8; FIELDS]; KINDS] = [
 fn text_at(s: &[u8], at: usize, text: &[u8]) -> Place
     requires { ⌜ at ≤ length (now s) ⌝ }
     ensures { λ r. ⌜ r ≡ field-place (same-text (now (text .entry))) (now (s .entry)) at ⌝ }
-    ensures within { λ r. ⌜ Within (now (s .entry)) at r ⌝ }
+    ensures within { λ r. ⌜ PlaceWithin (now (s .entry)) at r ⌝ }
 {
     let mut i: usize = 0;
     let mut next = at;
@@ -92,7 +92,7 @@ fn text_at(s: &[u8], at: usize, text: &[u8]) -> Place
 // A field that is a number of document 01.
 fn number_at(s: &[u8], at: usize) -> Place
     ensures { λ r. ⌜ r ≡ field-place a-number (now (s .entry)) at ⌝ }
-    ensures within { λ r. ⌜ Within (now (s .entry)) at r ⌝ }
+    ensures within { λ r. ⌜ PlaceWithin (now (s .entry)) at r ⌝ }
 {
     let Number::Value(v, next) = fields::read_number(s, at) else {
         return Place::Bad;
@@ -103,7 +103,7 @@ fn number_at(s: &[u8], at: usize) -> Place
 // A field that is a name.
 fn name_at(s: &[u8], at: usize) -> Place
     ensures { λ r. ⌜ r ≡ field-place a-name (now (s .entry)) at ⌝ }
-    ensures within { λ r. ⌜ Within (now (s .entry)) at r ⌝ }
+    ensures within { λ r. ⌜ PlaceWithin (now (s .entry)) at r ⌝ }
 {
     let Name::Value(real, n, next) = fields::read_name(s, at) else {
         return Place::Bad;
@@ -115,7 +115,7 @@ fn name_at(s: &[u8], at: usize) -> Place
 fn lettered_at(s: &[u8], at: usize, letter: u8) -> Place
     requires { ⌜ ends-field letter ≡ false ⌝ }
     ensures { λ r. ⌜ r ≡ field-place (lettered letter) (now (s .entry)) at ⌝ }
-    ensures within { λ r. ⌜ Within (now (s .entry)) at r ⌝ }
+    ensures within { λ r. ⌜ PlaceWithin (now (s .entry)) at r ⌝ }
 {
     if s.len() <= at {
         return Place::Bad;
@@ -133,7 +133,7 @@ fn lettered_at(s: &[u8], at: usize, letter: u8) -> Place
 fn field_at(s: &[u8], at: usize, code: u8) -> Place
     requires { ⌜ at ≤ length (now s) ⌝ }
     ensures { λ r. ⌜ r ≡ field-place (shape-of code) (now (s .entry)) at ⌝ }
-    ensures within { λ r. ⌜ Within (now (s .entry)) at r ⌝ }
+    ensures within { λ r. ⌜ PlaceWithin (now (s .entry)) at r ⌝ }
 {
     if code == NUMBER {
         return number_at(s, at);
@@ -155,7 +155,7 @@ fn field_at(s: &[u8], at: usize, code: u8) -> Place
 fn field_behind(s: &[u8], at: usize, code: u8) -> Place
     requires { ⌜ at ≤ length (now s) ⌝ }
     ensures { λ r. ⌜ r ≡ behind-place (shape-of code) (now (s .entry)) at ⌝ }
-    ensures within { λ r. ⌜ Within (now (s .entry)) at r ⌝ }
+    ensures within { λ r. ⌜ PlaceWithin (now (s .entry)) at r ⌝ }
 {
     let End::Tab = fields::ends(s, at) else {
         return Place::Bad;
@@ -209,7 +209,7 @@ fn line_at(s: &[u8], at: usize) -> Place
 fn rule_behind(s: &[u8], at: usize) -> Place
     requires { ⌜ at ≤ length (now s) ⌝ }
     ensures { λ r. ⌜ r ≡ behind-place a-rule (now (s .entry)) at ⌝ }
-    ensures within { λ r. ⌜ Within (now (s .entry)) at r ⌝ }
+    ensures within { λ r. ⌜ PlaceWithin (now (s .entry)) at r ⌝ }
 {
     let End::Tab = fields::ends(s, at) else {
         return Place::Bad;

@@ -22,25 +22,25 @@ use Rattle.frames.specs.declared.Length.the-variants as length-variants
 -- a line
 
 -- so far no line feed came
-pub record Reading (before line : List ℕ) (n : ℕ) : Type 0 where
+pub record LineReading (before line : List ℕ) (n : ℕ) : Type 0 where
   pub inside : n ≤ length line
   pub same-length : length line ≡ length before
   pub no-feed : (i : ℕ) → i < n → getD line i 0 ≡ line-feed → ⊥
 
-pub reading-none : (line : List ℕ) → Reading line line 0
+pub reading-none : (line : List ℕ) → LineReading line line 0
 reading-none line = record { inside = omega arith; same-length = refl; no-feed = λ i h. absurd (omega arith) }
 
-pub reading-left : {before line : List ℕ} {n : ℕ} → Reading before line n → LineLeft before line n
+pub reading-left : {before line : List ℕ} {n : ℕ} → LineReading before line n → LineLeft before line n
 reading-left r = record { inside = r .inside; same-length = r .same-length; one-line = λ i h. r .no-feed i (omega arith) }
 
-module _ {before line : List ℕ} {n : ℕ} (r : Reading before line n) (room : n < length line) (b : ℕ) where
+module _ {before line : List ℕ} {n : ℕ} (r : LineReading before line n) (room : n < length line) (b : ℕ) where
   earlier : (i : ℕ) → i < n → getD (set line n b) i 0 ≡ line-feed → ⊥
   earlier i h e = r .no-feed i h (sym (getD-set-other line n i b 0 (λ q. omega arith)) ∙ e)
 
   pub line-ended : LineLeft before (set line n b) (n + 1)
   line-ended = record { inside = rw length-set (omega arith); same-length = length-set line n b ∙ r .same-length; one-line = λ i h. earlier i (omega arith) }
 
-  pub reading-more : (b ≡ line-feed → ⊥) → Reading before (set line n b) (n + 1)
+  pub reading-more : (b ≡ line-feed → ⊥) → LineReading before (set line n b) (n + 1)
   reading-more d = record {
     inside = rw length-set (omega arith);
     same-length = length-set line n b ∙ r .same-length;

@@ -14,7 +14,7 @@ use Rattle.paper.specs.Sheet.{Block, Sheet}
 use Rattle.paper.specs.Limits.{max-blocks, max-succs, max-steps}
 use Rattle.paper.specs.Refusals.{block-record, step-record, add-record, add-step, step-count, ascending}
 use Rattle.layout.specs.Layout.{regs-word, slots-word, vregs-word, blocks-word, entry-word, opened-word, steps-word, least-typed-word, begun-word, typed-base, typed-words, block-base, block-words, succ-base, step-base, step-words, operand-base, all-words}
-use Rattle.loaded.specs.Filling.{BlockWithin, Begun, Fits, Stored}
+use Rattle.loaded.specs.Filling.{BlockWithin, Begun, StepFits, RecordStored}
 use Rattle.loaded.specs.Actions.{step-of, action-at, steps-at}
 use Rattle.loaded.specs.declared.Action.{Action}
 use Rattle.loaded.specs.Loaded.{first-step, step-total, succ-total, block-at, blocks-at, marked-from, sheet-of, BlockBounds, StepBounds, Bounds}
@@ -163,7 +163,7 @@ module _ (l m : List ℕ) (begun : Begun l) (count : ℕ) (succs : List ℕ) (ro
             rw (w .listed i q, w .head blocks-word (omega arith) (λ e. omega arith)) (within .below i q);
       }
 
-  pub block-stored : Stored l m (block-record (take count succs))
+  pub block-stored : RecordStored l m (block-record (take count succs))
   unfolding b add-record sheet-of with-body
   block-stored = record {
     same-length = w .same-length;
@@ -243,7 +243,7 @@ pub record StepWritten (l m : List ℕ) (b : ℕ) (action : Action) : Type 0 whe
   pub behind : (i : ℕ) → operand-base ≤ i → getD m i 0 ≡ getD l i 0
 
 module _ (l m : List ℕ) (begun : Begun l) (b : ℕ) (last : b + 1 ≡ getD l opened-word 0) (room : getD l steps-word 0 < max-steps) (action : Action)
-    (fits : Fits l action) (w : StepWritten l m b action) where
+    (fits : StepFits l action) (w : StepWritten l m b action) where
   k : ℕ
   k = getD l steps-word 0
 
@@ -366,7 +366,7 @@ module _ (l m : List ℕ) (begun : Begun l) (b : ℕ) (last : b + 1 ≡ getD l o
           (λ q. kept-step-bounds (begun .bounds) step-head step-steps i q)
           λ q. let e : i ≡ getD l steps-word 0 = omega (arith, w .count) in rw e new-bounds
 
-  pub step-stored : Stored l m (step-record (step-of l action))
+  pub step-stored : RecordStored l m (step-record (step-of l action))
   unfolding add-record sheet-of with-body
   step-stored = record {
     same-length = w .same-length;

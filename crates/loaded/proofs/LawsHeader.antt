@@ -11,7 +11,7 @@ use lib.Seq.{sets, sets-eq, drop-drop, getD-set-same, getD-set-other, take-set-l
 use Rattle.lists.specs.Region.{region, length-region}
 use Rattle.paper.specs.Refusals.{function-record, typed-record, add-record, ascending, step-count}
 use Rattle.layout.specs.Layout.{vregs-word, opened-word, steps-word, least-typed-word, begun-word, typed-base, typed-words}
-use Rattle.loaded.specs.Filling.{FunctionWithin, Blank, Begun, Stored}
+use Rattle.loaded.specs.Filling.{FunctionWithin, Blank, Begun, RecordStored}
 use Rattle.loaded.specs.Loaded.{blocks-at, marked-from, sheet-of, Bounds}
 use Rattle.loaded.specs.Typed.{none-typed, marks-more, ascending-more, ascending-one}
 
@@ -60,7 +60,7 @@ module _ (l : List ℕ) (blank : Blank l) (regs slots vregs blocks entry : ℕ) 
   headed-meaning = ap (λ (t : List ℕ). record { regs = regs; slots = slots; vregs = vregs; blocks = blocks; entry = entry; typed = t; body = [] }) typed-none
 
   pub function-stored : (m : List ℕ) → m ≡ sets l 0 (regs ∷ slots ∷ vregs ∷ blocks ∷ entry ∷ 0 ∷ 0 ∷ 0 ∷ 1 ∷ [])
-      → Stored l m (function-record regs slots vregs blocks entry)
+      → RecordStored l m (function-record regs slots vregs blocks entry)
   unfolding headed
   function-stored m e =
       let q : m ≡ headed = e ∙ sets-eq (regs ∷ slots ∷ vregs ∷ blocks ∷ entry ∷ 0 ∷ 0 ∷ 0 ∷ 1 ∷ []) l 0 (omega (arith, blank .size)) in
@@ -145,5 +145,5 @@ module _ (l : List ℕ) (begun : Begun l) (n : ℕ) (none : getD l opened-word 0
         let h : (i : ℕ) → i < 7 → getD m i 0 ≡ getD l i 0 = λ i q. header i (omega arith) (λ w. omega arith) in
         rw (typed-after, h 0 (omega arith), h 1 (omega arith), h 2 (omega arith), h 3 (omega arith), h 4 (omega arith), h 5 (omega arith), none)
 
-    pub typed-stored : Stored l m (typed-record n)
+    pub typed-stored : RecordStored l m (typed-record n)
     typed-stored = record { same-length = size; meaning = typed-meaning; progress = typed-begun }

@@ -12,7 +12,7 @@ use Rattle.paper.specs.Sheet.{Sheet, operation}
 use Rattle.paper.specs.Refusals.{Record, add-record}
 use Rattle.paper.specs.Limits.{max-operands}
 use Rattle.layout.specs.Layout.{regs-word, opened-word, steps-word, block-base, block-words, operand-base, defs-from, operand-words}
-use Rattle.loaded.specs.Filling.{GroupWithin, Begun, Fits, Stored}
+use Rattle.loaded.specs.Filling.{GroupWithin, Begun, StepFits, RecordStored}
 use Rattle.loaded.specs.Actions.{operand-of, operands, step-of}
 use Rattle.loaded.specs.declared.Action.the-variants.{Operation}
 use Rattle.loaded.specs.Loaded.{step-total, blocks-at, sheet-of}
@@ -74,7 +74,7 @@ module _ (row l m : List ℕ) (e : m ≡ over (operands-place l) operand-words (
     sheet-still = meaning-after p head steps ∙ ap (with-body l) body
 
   -- one record more from here is one more from there
-  pub stored-from : Begun l → {l′ : List ℕ} {r x : Record} → r ≡ x → Stored m l′ r → Stored l l′ x
+  pub stored-from : Begun l → {l′ : List ℕ} {r x : Record} → r ≡ x → RecordStored m l′ r → RecordStored l l′ x
   stored-from p {l′} {r} q stored = record {
     same-length = stored .same-length ∙ size;
     meaning = stored .meaning ∙ ap (λ (S : Sheet). add-record S r) (sheet-still p) ∙ ap (add-record (sheet-of l)) q;
@@ -101,7 +101,7 @@ module _ (row l m : List ℕ) (e : m ≡ over (operands-place l) operand-words (
     operation-stored inst n k hn hk = rw (← group-stored 0 n (omega arith), ← group-stored defs-from k (omega arith), add-zero)
 
     pub operation-fits : Begun l → (inst n k : ℕ) → GroupWithin (sheet-of l) (getD l regs-word 0) 0 n row → GroupWithin (sheet-of l) (getD l regs-word 0) defs-from k row
-        → Fits m (Operation inst (operands-place l) n k)
+        → StepFits m (Operation inst (operands-place l) n k)
     operation-fits p inst n k us ds = record {
       packs = (rw (low steps-word (omega arith)), omega (arith, us .few), omega (arith, ds .few));
       ranged = rw (low regs-word (omega arith)) (

@@ -88,22 +88,22 @@ steps-at words k zero = []
 steps-at words k (suc n) = step-of words (action-at words k) ∷ steps-at words (k + 1) n
 
 -- the numbers of an action are below the counts, and its operands' registers as `Register` says
-abbrev pub Within : List ℕ → (ℕ → Type 0) → List ℕ → Action → Type 0
-Within counts Register words (Copy kind into from) = (into < getD counts (rows-of kind .into) 0) × (from < getD counts (rows-of kind .from) 0)
-Within counts Register words (Change inst k from to) = k < getD counts 1 0
-Within counts Register words (Operation inst at n m) =
+abbrev pub ActionWithin : List ℕ → (ℕ → Type 0) → List ℕ → Action → Type 0
+ActionWithin counts Register words (Copy kind into from) = (into < getD counts (rows-of kind .into) 0) × (from < getD counts (rows-of kind .from) 0)
+ActionWithin counts Register words (Change inst k from to) = k < getD counts 1 0
+ActionWithin counts Register words (Operation inst at n m) =
     (n ≤ max-operands) × (m ≤ max-operands) × (at + operand-words ≤ length words)
     × ((i : ℕ) → i < n → Register (getD words (at + i) 0 / 1024))
     × ((i : ℕ) → i < m → Register (getD words (at + defs-from + i) 0 / 1024))
-Within counts Register words (Safepoint inst mask) = mask < 2 ^ getD counts 1 0
+ActionWithin counts Register words (Safepoint inst mask) = mask < 2 ^ getD counts 1 0
 
 -- as a sheet is read: a register below the count, or none
 abbrev pub Ranged : List ℕ → List ℕ → Action → Type 0
-Ranged counts words a = Within counts (λ r. (r < getD counts 0 0) ⊎ (r ≡ no-register)) words a
+Ranged counts words a = ActionWithin counts (λ r. (r < getD counts 0 0) ⊎ (r ≡ no-register)) words a
 
 -- as an analysis runs: no allocation is missing
 abbrev pub InRange : List ℕ → List ℕ → Action → Type 0
-InRange counts words a = Within counts (λ r. r < getD counts 0 0) words a
+InRange counts words a = ActionWithin counts (λ r. r < getD counts 0 0) words a
 
 -- the marks of an operation's defs are those of `T`
 abbrev pub DefsMarked : (Name → Bool) → List ℕ → Action → Type 0

@@ -50,13 +50,13 @@ pub record GroupWithin (S : Sheet) (regs from count : ℕ) (words : List ℕ) : 
   pub marks : (k : ℕ) → k < count → reference-typed S (name-of-word (getD words (from + k) 0)) ≡ marked (getD words (from + k) 0)
 
 -- the action can be the next step
-pub record Fits (words : List ℕ) (action : Action) : Type 0 where
+pub record StepFits (words : List ℕ) (action : Action) : Type 0 where
   pub packs : Packs (getD words steps-word 0) action
   pub ranged : Ranged (counts-in words) words action
   pub honest : DefsMarked (reference-typed (sheet-of words)) words action
 
 -- the words hold one record more
-pub record Stored (before after : List ℕ) (r : Record) : Type 0 where
+pub record RecordStored (before after : List ℕ) (r : Record) : Type 0 where
   pub same-length : length after ≡ length before
   pub meaning : sheet-of after ≡ add-record (sheet-of before) r
   pub progress : Begun after

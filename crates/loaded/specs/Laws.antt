@@ -16,7 +16,7 @@ use Rattle.paper.specs.Report.{unallocated, first-list, missing-names}
 use Rattle.layout.specs.Layout.{defs-from, row-words, row-widths}
 use Rattle.cells.specs.States.{RowsFit}
 use Rattle.cells.specs.Laws.{narrow-at}
-use Rattle.loaded.specs.Actions.{rows-of, no-register, register-of, operand-of, operands, step-of, action-at, Within, Ranged, InRange, RoomFor, Runnable}
+use Rattle.loaded.specs.Actions.{rows-of, no-register, register-of, operand-of, operands, step-of, action-at, ActionWithin, Ranged, InRange, RoomFor, Runnable}
 use Rattle.loaded.specs.declared.Action.{Action}
 use Rattle.loaded.specs.declared.Action.the-variants.{Copy, Change, Operation, Safepoint}
 
@@ -47,7 +47,7 @@ runnable-most {counts} {words} r = record {
 }
 
 -- a step that was read has room for its operands
-pub room-within : (counts : List ℕ) (Register : ℕ → Type 0) (l : List ℕ) (a : Action) → Within counts Register l a → RoomFor a l
+pub room-within : (counts : List ℕ) (Register : ℕ → Type 0) (l : List ℕ) (a : Action) → ActionWithin counts Register l a → RoomFor a l
 room-within counts Register l (Copy kind into from) w = tt
 room-within counts Register l (Change inst slot from to) w = tt
 room-within counts Register l (Operation inst at uses defs) w = (w .0, w .1, w .2)

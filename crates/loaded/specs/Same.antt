@@ -11,7 +11,7 @@ use Rattle.lists.specs.Region.{same-region}
 use Rattle.paper.specs.Text.{Name}
 use Rattle.paper.specs.Sheet.{Step}
 use Rattle.layout.specs.Layout.{step-base, step-words, operand-base, defs-from, operand-words}
-use Rattle.loaded.specs.Actions.{operand-of, operands, step-of, action-of, action-at, steps-at, Within, DefsMarked, Packs, RoomFor}
+use Rattle.loaded.specs.Actions.{operand-of, operands, step-of, action-of, action-at, steps-at, ActionWithin, DefsMarked, Packs, RoomFor}
 use Rattle.loaded.specs.declared.Action.{Action}
 use Rattle.loaded.specs.declared.Action.the-variants.{Copy, Change, Operation, Safepoint}
 
@@ -77,7 +77,7 @@ module _ {l m : List ℕ} {n : ℕ} (same : SameOperands l m n) (k : ℕ) (h : k
       rw (same-uses at (p .0) uses (q .0) (q .2), same-defs at (p .0) defs (q .1) (q .2))
   same-step (Safepoint inst mask) p q = refl
 
-  pub same-within : (counts : List ℕ) (Register : ℕ → Type 0) (a : Action) → Packs k a → Within counts Register l a → Within counts Register m a
+  pub same-within : (counts : List ℕ) (Register : ℕ → Type 0) (a : Action) → Packs k a → ActionWithin counts Register l a → ActionWithin counts Register m a
   same-within counts Register (Copy kind into from) p w = w
   same-within counts Register (Change inst slot from to) p w = w
   same-within counts Register (Operation inst at uses defs) p w = (

@@ -12,7 +12,7 @@ ghost use Rattle.layout.specs.Layout.{regs-word, vregs-word, blocks-word, entry
 ghost use Rattle.cells.specs.States.{row-counts};
 ghost use Rattle.loaded.specs.Actions.{rows-of, operands, step-of, action-at, tag-of, packed, Packs};
 ghost use Rattle.loaded.specs.Loaded.{first-step, step-total, succ-total, counts-in, counts-of, reached-of, sheet-of};
-ghost use Rattle.loaded.specs.Filling.{Blank, Begun, FunctionWithin, BlockWithin, GroupWithin, Fits, Stored};
+ghost use Rattle.loaded.specs.Filling.{Blank, Begun, FunctionWithin, BlockWithin, GroupWithin, StepFits, RecordStored};
 use cells::RowCounts;
 use layout::BEGUN_WORD;
 use layout::BLOCK_BASE;
@@ -316,7 +316,7 @@ pub fn successor(words: &[u16], b: usize, i: usize) -> usize
 // `F`: the header, with no block, no step and no typed name.
 pub fn store_function(words: &mut [u16], regs: u16, slots: u16, vregs: u16, blocks: u16, entry: u16)
     requires { ⌜ Blank (now words) × FunctionWithin regs slots vregs blocks entry ⌝ }
-    ensures { λ _. ⌜ Stored (now (words .entry)) (now (words .exit)) (function-record regs slots vregs blocks entry) ⌝ }
+    ensures { λ _. ⌜ RecordStored (now (words .entry)) (now (words .exit)) (function-record regs slots vregs blocks entry) ⌝ }
 {
     words[REGS_WORD] = regs;
     words[SLOTS_WORD] = slots;
@@ -332,7 +332,7 @@ pub fn store_function(words: &mut [u16], regs: u16, slots: u16, vregs: u16, bloc
 // `T`: the name's word, and the least number that the next may have.
 pub fn add_typed(words: &mut [u16], n: usize)
     requires { ⌜ Begun (now words) × (getD (now words) opened-word 0 ≡ 0) × (n < getD (now words) vregs-word 0) × (getD (now words) least-typed-word 0 ≤ n) ⌝ }
-    ensures { λ _. ⌜ Stored (now (words .entry)) (now (words .exit)) (typed-record n) ⌝ }
+    ensures { λ _. ⌜ RecordStored (now (words .entry)) (now (words .exit)) (typed-record n) ⌝ }
 {
     words[TYPED_BASE + n] = 1;
     words[LEAST_TYPED_WORD] = n as u16 + 1;
@@ -352,7 +352,7 @@ fn store_succs(words: &mut [u16], at: usize, succs: [u32; MAX_SUCCS], count: usi
 // `B`: the next block, with no step yet.
 pub fn add_block(words: &mut [u16], succs: [u32; MAX_SUCCS], count: usize)
     requires { ⌜ Begun (now words) × (getD (now words) opened-word 0 < getD (now words) blocks-word 0) × BlockWithin (getD (now words) blocks-word 0) count succs ⌝ }
-    ensures { λ _. ⌜ Stored (now (words .entry)) (now (words .exit)) (block-record (take count succs)) ⌝ }
+    ensures { λ _. ⌜ RecordStored (now (words .entry)) (now (words .exit)) (block-record (take count succs)) ⌝ }
 {
     let b = words[OPENED_WORD];
     let at = BLOCK_BASE + b as usize * BLOCK_WORDS;
@@ -365,8 +365,8 @@ pub fn add_block(words: &mut [u16], succs: [u32; MAX_SUCCS], count: usize)
 
 // A step more at the end of the last block.
 pub fn add_step(words: &mut [u16], action: Action)
-    requires { ⌜ Begun (now words) × (0 < getD (now words) opened-word 0) × (getD (now words) steps-word 0 < max-steps) × Fits (now words) action ⌝ }
-    ensures { λ _. ⌜ Stored (now (words .entry)) (now (words .exit)) (step-record (step-of (now (words .entry)) action)) ⌝ }
+    requires { ⌜ Begun (now words) × (0 < getD (now words) opened-word 0) × (getD (now words) steps-word 0 < max-steps) × StepFits (now words) action ⌝ }
+    ensures { λ _. ⌜ RecordStored (now (words .entry)) (now (words .exit)) (step-record (step-of (now (words .entry)) action)) ⌝ }
 {
     let k = words[STEPS_WORD];
     let total = BLOCK_BASE + (words[OPENED_WORD] as usize - 1) * BLOCK_WORDS + STEP_TOTAL_WORD;
@@ -396,7 +396,7 @@ pub fn add_operation(
     defs: usize,
 )
     requires { ⌜ Begun (now words) × (0 < getD (now words) opened-word 0) × (getD (now words) steps-word 0 < max-steps) × GroupWithin (sheet-of (now words)) (getD (now words) regs-word 0) 0 uses row × GroupWithin (sheet-of (now words)) (getD (now words) regs-word 0) defs-from defs row ⌝ }
-    ensures { λ _. ⌜ Stored (now (words .entry)) (now (words .exit)) (step-record (operation inst (operands 0 uses row) (operands defs-from defs row))) ⌝ }
+    ensures { λ _. ⌜ RecordStored (now (words .entry)) (now (words .exit)) (step-record (operation inst (operands 0 uses row) (operands defs-from defs row))) ⌝ }
 {
     let at = OPERAND_BASE + words[STEPS_WORD] as usize * OPERAND_WORDS;
     store_operands(words, at, row);

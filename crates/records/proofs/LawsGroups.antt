@@ -21,7 +21,7 @@ use Rattle.records.specs.declared.Judged.{Judged}
 use Rattle.records.specs.declared.Judged.the-variants.{Passes, Breaks}
 use Rattle.records.specs.declared.Operands.{Operands}
 use Rattle.records.specs.Records.{holding, judged-of, name-of-code, register-of-code, Placed, Counted}
-use Rattle.records.specs.Parts.{counted, operand-of-codes, operands-of-codes, held, Roomy, Kept, group-over, OperationWithin, below}
+use Rattle.records.specs.Parts.{counted, operand-of-codes, operands-of-codes, held, Roomy, OperandsKept, group-over, OperationWithin, below}
 use Rattle.records.proofs.LawsOperands.{codes-length, codes-at}
 use Rattle.records.proofs.LawsSearch.{any-past, any-here, any-on}
 use Rattle.records.proofs.LawsTold.{clear-of, Tested}
@@ -112,7 +112,7 @@ all-below limit zero l h = refl
 all-below limit (suc count) [] h = refl
 all-below limit (suc count) (x ∷ l) h = rw (lt-ltb x limit (h zero), all-below limit count l (λ k. h (suc k)))
 
-module _ {us : List Operand} {g : Operands} (k : Kept us g) where
+module _ {us : List Operand} {g : Operands} (k : OperandsKept us g) where
   held-names : repeats name-same (names (held g)) ≡ repeats ℕ-discrete (below 200000 (take (g .count) (g .names)))
   unfolding held
   held-names =
@@ -195,7 +195,7 @@ unbroken counts place inst uses defs {gu} {gd} disorder elsewhere differ eu ed P
     }
 unbroken counts place inst uses defs disorder elsewhere differ eu ed (Breaks breach) l = tt
 
-module _ {us ds : List Operand} {uses defs : Operands} (ku : Kept us uses) (kd : Kept ds defs) (inst : ℕ) (counts : Counts) {gu gd : Bool}
+module _ {us ds : List Operand} {uses defs : Operands} (ku : OperandsKept us uses) (kd : OperandsKept ds defs) (inst : ℕ) (counts : Counts) {gu gd : Bool}
     (eu : gu ≡ group-over counts uses) (ed : gd ≡ group-over counts defs) {so : Option Sheet} {place : Place}
     (p : Placed so (step-record (operation inst us ds)) place) (h : Counted (so-far-of so) counts) where
   operation-limit : (ltb 65535 inst || (gu || gd)) ≡ beyond-limit (so-far-of so) (step-record (operation inst us ds))

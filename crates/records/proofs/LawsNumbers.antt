@@ -70,14 +70,14 @@ map-same (some a) = refl
 -- at most eight numbers
 
 -- the numbers up to i
-pub record Reading (s : Bytes) (at count : ℕ) (values : List ℕ) (i : ℕ) : Type 0 where
+pub record NumbersReading (s : Bytes) (at count : ℕ) (values : List ℕ) (i : ℕ) : Type 0 where
   pub whole : numbers-of (fields-behind s at) ≡ Option·map (λ ns. take count values ++ ns) (numbers-of (fields-behind s i))
   pub few : count ≤ 8
   pub room : length values ≡ 8
   pub behind : Behind s i
   pub line : line-end s i ≡ line-end s at
 
-pub reading-none : {s : Bytes} {at : ℕ} (values : List ℕ) → Behind s at → length values ≡ 8 → Reading s at 0 values at
+pub reading-none : {s : Bytes} {at : ℕ} (values : List ℕ) → Behind s at → length values ≡ 8 → NumbersReading s at 0 values at
 reading-none {s} {at} values b e =
     record { whole = map-same (numbers-of (fields-behind s at)); few = omega arith; room = e; behind = b; line = refl }
 
@@ -86,7 +86,7 @@ pub put-behind : {A : Type 0} (done : List A) (v : A) (o : Option (List A))
 put-behind done v none = refl
 put-behind done v (some ns) = rw append-assoc
 
-module _ {s : Bytes} {at count : ℕ} {values : List ℕ} {i : ℕ} (r : Reading s at count values i) where
+module _ {s : Bytes} {at count : ℕ} {values : List ℕ} {i : ℕ} (r : NumbersReading s at count values i) where
   kept : length (take count values) ≡ count
   kept = length-take-le count values (omega (arith, r .few, r .room))
 
@@ -110,7 +110,7 @@ module _ {s : Bytes} {at count : ℕ} {values : List ℕ} {i : ℕ} (r : Reading
             let l : length (take count values ++ v ∷ ns) ≡ count + suc (length ns) = rw (length-append, kept) in
             rw (lt-leb (length (take count values ++ v ∷ ns)) 8 (omega arith))
 
-    pub reading-more : (count ≡ 8 → ⊥) → Reading s at (count + 1) (set values count v) after
+    pub reading-more : (count ≡ 8 → ⊥) → NumbersReading s at (count + 1) (set values count v) after
     reading-more e = record {
       whole =
           r .whole

@@ -27,8 +27,8 @@ use Rattle.records.specs.declared.Operands.{Operands}
 use Rattle.records.specs.declared.Listed.{Listed}
 use Rattle.records.specs.declared.Slots.{Slots}
 use Rattle.records.specs.declared.Slots.the-variants as slots-of
-use Rattle.records.specs.declared.Pair as Pair
-use Rattle.records.specs.declared.Pair.the-variants as pair
+use Rattle.records.specs.declared.TwoNumbers as TwoNumbers
+use Rattle.records.specs.declared.TwoNumbers.the-variants as pair
 use Rattle.records.specs.Records.{Behind, Ends, name-of-code, register-of-code}
 
 -- a sheet of which only the counts are known
@@ -80,7 +80,7 @@ pub record NextOperand (s : Bytes) (at : ℕ) (u : Operand) (after : ℕ) : Type
   pub further : at < after
   pub line : line-end s after ≡ line-end s at
 
-abbrev pub OperandBehind : Bytes → ℕ → Pair.Pair → Type 0
+abbrev pub OperandBehind : Bytes → ℕ → TwoNumbers.TwoNumbers → Type 0
 OperandBehind s at pair.Bad = (n : ℕ) → operands-of (suc n) (fields-behind s at) ≡ none
 OperandBehind s at (pair.Value n r after) = NextOperand s at (operand-of-codes n r) after × (n < 200000)
 
@@ -98,7 +98,7 @@ pub record Roomy (g : Operands) : Type 0 where
   pub registers-room : length (g .registers) ≡ max-operands
 
 -- the group is of these operands, and holds the first 8
-pub record Kept (us : List Operand) (g : Operands) : Type 0 where
+pub record OperandsKept (us : List Operand) (g : Operands) : Type 0 where
   pub counted : length us ≡ g .count
   pub kept : take max-operands us ≡ held g
   pub small : (k : ℕ) → getD (g .names) k 0 < 200000
@@ -108,7 +108,7 @@ pub record Kept (us : List Operand) (g : Operands) : Type 0 where
 pub record GroupRead (s : Bytes) (at : ℕ) (g : Operands) (after : ℕ) : Type 0 where
   pub operands : List Operand
   pub says : counted-operands-of (fields-behind s at) ≡ some (record { value = operands; rest = fields-behind s after })
-  pub kept : Kept operands g
+  pub kept : OperandsKept operands g
   pub behind : Behind s after
   pub line : line-end s after ≡ line-end s at
 

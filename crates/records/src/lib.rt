@@ -14,7 +14,7 @@ ghost use Rattle.paper.specs.Refusals.{function-record, typed-record, block-rec
 ghost use Rattle.layout.specs.Layout.{typed-words, operand-words};
 ghost use Rattle.fields.specs.Fields.{line-end, fields-behind};
 ghost use Rattle.records.specs.Records.{holding, judged-of, told, function-line, typed-line, block-line, pair-line, change-line, operation-line, safepoint-line, Placed, Behind, NumberBehind, NameBehind, AllocationBehind, name-of-code, register-of-code, CountsWithin, Counted, TypedBy, Least, Paired, FunctionClear, TypedClear, BlockClear, PairClear, ChangeClear, OperationClear, SafepointClear};
-ghost use Rattle.records.specs.Parts.{NumbersRead, ExactlyRead, operand-of-codes, OperandBehind, held, Roomy, Kept, OperandsRead, group-over, OperationWithin, below, name-word, register-word, mark-word, is-typed, word, Small, Listing, SlotsRead, counted, ChangeRead};
+ghost use Rattle.records.specs.Parts.{NumbersRead, ExactlyRead, operand-of-codes, OperandBehind, held, Roomy, OperandsKept, OperandsRead, group-over, OperationWithin, below, name-word, register-word, mark-word, is-typed, word, Small, Listing, SlotsRead, counted, ChangeRead};
 use cells::MARK;
 use fields::Allocation;
 use fields::Name;
@@ -157,7 +157,7 @@ pub struct Exactly {
 }
 
 // An operand's name and its allocation, and the place behind them.
-pub enum Pair {
+pub enum TwoNumbers {
     Value(u32, u32, usize),
     Bad,
 }
@@ -536,17 +536,17 @@ pub fn change_line(s: &[u8], at: usize, place: Place, counts: Counts, typed: &[u
 }
 
 // The next two fields of the line, as a name and its allocation.
-fn operand_behind(s: &[u8], at: usize) -> Pair
+fn operand_behind(s: &[u8], at: usize) -> TwoNumbers
     requires { ⌜ Behind (now s) at ⌝ }
     ensures { λ r. ⌜ OperandBehind (now (s .entry)) at r ⌝ }
 {
     let Number::Value(name, next) = name_behind(s, at) else {
-        return Pair::Bad;
+        return TwoNumbers::Bad;
     };
     let Number::Value(register, end) = allocation_behind(s, next) else {
-        return Pair::Bad;
+        return TwoNumbers::Bad;
     };
-    Pair::Value(name, register, end)
+    TwoNumbers::Value(name, register, end)
 }
 
 // A group of operands: the form of all is read, and the first 8 are kept.
@@ -567,7 +567,7 @@ fn read_operands(s: &[u8], at: usize) -> Operands
     };
     let mut i = first;
     while count < n as usize {
-        let Pair::Value(name, register, next) = operand_behind(s, i) else {
+        let TwoNumbers::Value(name, register, next) = operand_behind(s, i) else {
             return Operands {
                 form: Form::Bad,
                 count,
@@ -686,7 +686,7 @@ fn judge_operation(
     place: Place,
 ) -> Judged
     requires { ⌜ Roomy uses × Roomy defs ⌝ }
-    ensures { λ r. ⌜ ((so : Option Sheet) (us : List Operand) (ds : List Operand) → ((x : Step) → Placed so (step-record x) place) → Counted (so-far-of so) counts → Kept us uses → Kept ds defs → r ≡ judged-of (first-holding (conditions so (step-record (operation inst us ds))))) ⌝ }
+    ensures { λ r. ⌜ ((so : Option Sheet) (us : List Operand) (ds : List Operand) → ((x : Step) → Placed so (step-record x) place) → Counted (so-far-of so) counts → OperandsKept us uses → OperandsKept ds defs → r ≡ judged-of (first-holding (conditions so (step-record (operation inst us ds))))) ⌝ }
     ensures clear { λ r. ⌜ OperationWithin counts place inst uses defs r ⌝ }
 {
     let beyond = (MAX_INST < inst) | (group_beyond(uses, counts) | group_beyond(defs, counts));

@@ -13,7 +13,7 @@ use Rattle.paper.specs.Sheet.{Sheet}
 use Rattle.records.specs.Pairs.{spill-paired, reload-paired, move-paired}
 use Rattle.sheet.specs.declared.CopyLimits.{CopyLimits}
 use Rattle.sheet.specs.Reading.{Progress, limits-of}
-use Rattle.loaded.specs.Filling.{Fits}
+use Rattle.loaded.specs.Filling.{StepFits}
 use Rattle.records.specs.Records.{Counted, Paired, PairWithin}
 use Rattle.loaded.specs.declared.Counts.{Counts}
 use Rattle.loaded.specs.Loaded.{counts-in, counts-of}
@@ -21,7 +21,7 @@ use Rattle.sheet.proofs.LawsProgress.{counts-within}
 
 module _ (l : List ℕ) (p : Progress l) where
   pub copy-fits : {counts : Counts} {limits : CopyLimits} (kind : CopyKind) {a b : ℕ} → counts ≡ counts-of l → limits ≡ limits-of kind counts
-      → PairWithin (limits .into) (limits .from) a b → Fits l (Copy kind a b)
+      → PairWithin (limits .into) (limits .from) a b → StepFits l (Copy kind a b)
   copy-fits kind {a} {b} e q h =
       let w = counts-within l p in
       let k : PairWithin (limits-of kind (counts-of l) .into) (limits-of kind (counts-of l) .from) a b = rw (q, e) at h in
@@ -34,12 +34,12 @@ module _ (l : List ℕ) (p : Progress l) where
       copied Reload ha hb = unfold limits-of rows-of in let w = counts-within l p in ((omega arith, omega arith), (ha, hb))
       copied Move ha hb = unfold limits-of rows-of in let w = counts-within l p in ((omega arith, omega arith), (ha, hb))
 
-  pub change-fits : (inst k from to : ℕ) → k < getD l slots-word 0 → Fits l (Change inst k from to)
+  pub change-fits : (inst k from to : ℕ) → k < getD l slots-word 0 → StepFits l (Change inst k from to)
   change-fits inst k from to h =
       let w = counts-within l p in
       record { packs = omega arith; ranged = h; honest = tt }
 
-  pub safepoint-fits : (inst mask : ℕ) → mask < 2 ^ getD l slots-word 0 → Fits l (Safepoint inst mask)
+  pub safepoint-fits : (inst mask : ℕ) → mask < 2 ^ getD l slots-word 0 → StepFits l (Safepoint inst mask)
   safepoint-fits inst mask h = record { packs = tt; ranged = h; honest = tt }
 
 -- the two numbers of a copy, held against its limits as the paper holds them

@@ -12,7 +12,7 @@ use Rattle.paper.specs.Refusals.{Record, so-far-of, first-holding, conditions, 
 use Rattle.paper.specs.Refusals as paper
 use Rattle.fields.specs.Fields.{line-end}
 use Rattle.records.specs.Records.{Line, good, bad, told-by, told, InPlace, TypedWithin, PairWithin, ChangeWithin, GroupsWithin, SafepointWithin, FunctionClear, TypedClear, BlockClear, PairClear, ChangeClear, OperationClear, SafepointClear}
-use Rattle.loaded.specs.Filling.{FunctionWithin, BlockWithin, Stored}
+use Rattle.loaded.specs.Filling.{FunctionWithin, BlockWithin, RecordStored}
 use Rattle.records.specs.declared.Breach.{Breach}
 use Rattle.loaded.specs.declared.Counts.{Counts}
 use Rattle.records.specs.declared.Place.{Place}
@@ -72,7 +72,7 @@ module _ {read : Option Record} {s : Bytes} {at : ℕ} {l : List ℕ} {line : Li
       }
 
   -- accepted: the words hold one record more
-  pub line-accepted : {l′ : List ℕ} {r : Record} {next : ℕ} → Progress l → line ≡ good r next → next < length s → Stored l l′ r
+  pub line-accepted : {l′ : List ℕ} {r : Record} {next : ℕ} → Progress l → line ≡ good r next → next < length s → RecordStored l l′ r
       → LineRead read s at l l′ (lined.Good (next + 1))
   unfolding lined-of so-far
   line-accepted {l′} {r} {next} p e inside stored =

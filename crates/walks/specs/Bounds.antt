@@ -19,7 +19,7 @@ use Rattle.paper.specs.declared.Rule.the-variants.{Old, House}
 use Rattle.walks.specs.Heights.{Each, sum, Graded, graded-list}
 use Rattle.walks.specs.Meet.{names-meet, meet-keeps}
 use Rattle.walks.specs.Fits.{shape-of, shape, Row, Fits, fits-lengths, fits-entry, fits-unreached, HouseKeeps, house-fits-all, old-fits-all}
-use Rattle.walks.specs.Visits.{Ranked, Within, start, within-unvisited, within-visited}
+use Rattle.walks.specs.Visits.{Ranked, VisitsWithin, start, within-unvisited, within-visited}
 
 -- how far a cell can still fall: under the house rule Absent never occurs
 unfoldable height : Rule → Cell → ℕ
@@ -201,12 +201,12 @@ ranked rule S C = record {
   succs-in = C .succs-in;
 }
 
-pub within-begin : (rule : Rule) (S : Sheet) (C : Closed S) → Within (ranked rule S C) (visit-bound rule S) 0 (begin rule S)
+pub within-begin : (rule : Rule) (S : Sheet) (C : Closed S) → VisitsWithin (ranked rule S C) (visit-bound rule S) 0 (begin rule S)
 unfolding begin before flow visit-bound ranked top start
 within-begin Old S C = within-visited (ranked Old S C) (unreached-state Old S) (fits-unreached S Old tt)
 within-begin House S C = rw (one-add (3 * cell-count S)) (within-unvisited (ranked House S C))
 
-pub within-lengths : (rule : Rule) (S : Sheet) (C : Closed S) (bound k : ℕ) (r : Run State) → Within (ranked rule S C) bound k r
+pub within-lengths : (rule : Rule) (S : Sheet) (C : Closed S) (bound k : ℕ) (r : Run State) → VisitsWithin (ranked rule S C) bound k r
     → (b : ℕ) (s : State) → r .table b ≡ some s → map length s ≡ counts-of S
 unfolding ranked
 within-lengths rule S C bound k r g b s e = fits-lengths S (g .fit b s e)

@@ -14,13 +14,13 @@ use Rattle.paper.specs.Runs.{Run, flow, begin, spread, step, run, visit-bound, 
 use Rattle.paper.specs.Walks.{In}
 use Rattle.paper.specs.declared.Rule.{Rule}
 use Rattle.walks.specs.Running.{run-add, run-still}
-use Rattle.walks.specs.Visits.{Within, within-queue, within-visit, within-step, within-run, within-ends}
+use Rattle.walks.specs.Visits.{VisitsWithin, within-queue, within-visit, within-step, within-run, within-ends}
 use Rattle.walks.specs.Fits.{Any, fits-lengths, fits-unreached}
 use Rattle.walks.specs.Bounds.{Closed, ranked, within-begin, within-lengths}
 
 module _ (rule : Rule) (S : Sheet) (C : Closed S) where
   pub record Standing (k : ℕ) (r : Run State) : Type 0 where
-    pub within : Within (ranked rule S C) (visit-bound rule S) k r
+    pub within : VisitsWithin (ranked rule S C) (visit-bound rule S) k r
 
   module _ {k : ℕ} {r : Run State} (h : Standing k r) where
     -- visits so far and blocks that wait never pass the bound

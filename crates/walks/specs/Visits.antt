@@ -40,7 +40,7 @@ module _ {A : Type 0} {F : Flow A} {n h : ℕ} (R : Ranked F n h) where
   potential r = length (r .queue) + total n (r .table)
 
   -- what holds of a run after k visits, and between two pushes of the visit that comes next
-  pub record Within (bound k : ℕ) (r : Run A) : Type 0 where
+  pub record VisitsWithin (bound k : ℕ) (r : Run A) : Type 0 where
     pub fit : (b : ℕ) (a : A) → r .table b ≡ some a → R .Fit a
     pub below : (b : ℕ) → In b (r .queue) → b < n
     pub visited : (b : ℕ) → In b (r .queue) → (a : A) × (r .table b ≡ some a)
@@ -66,12 +66,12 @@ module _ {A : Type 0} {F : Flow A} {n h : ℕ} (R : Ranked F n h) where
 
   module _ {bound : ℕ} where
     -- visits so far and blocks that wait
-    pub within-queue : {k : ℕ} {r : Run A} → Within bound k r → k + length (r .queue) ≤ bound
+    pub within-queue : {k : ℕ} {r : Run A} → VisitsWithin bound k r → k + length (r .queue) ≤ bound
     unfolding potential
     within-queue g = omega (arith, g .room)
 
     -- the next block is taken from the queue: its visit counts from here on
-    within-take : {k : ℕ} {r : Run A} (b : ℕ) (q : List ℕ) → r .queue ≡ b ∷ q → Within bound k r → Within bound (suc k) (record { table = r .table; queue = q })
+    within-take : {k : ℕ} {r : Run A} (b : ℕ) (q : List ℕ) → r .queue ≡ b ∷ q → VisitsWithin bound k r → VisitsWithin bound (suc k) (record { table = r .table; queue = q })
     unfolding potential
     within-take {k} {r} b q e g = record {
       fit = g .fit;
@@ -80,7 +80,7 @@ module _ {A : Type 0} {F : Flow A} {n h : ℕ} (R : Ranked F n h) where
       room = omega (arith, g .room, ap length e);
     }
 
-    within-store : {k : ℕ} (s : ℕ) (y : A) (r : Run A) → s < n → R .Fit y → R .rank y < weight (r .table s) → Within bound k r → Within bound k (store F s y r)
+    within-store : {k : ℕ} (s : ℕ) (y : A) (r : Run A) → s < n → R .Fit y → R .rank y < weight (r .table s) → VisitsWithin bound k r → VisitsWithin bound k (store F s y r)
     unfolding store potential
     within-store s y r l fy w g = record {
       fit = fit-update (r .table) s y fy (g .fit);
@@ -100,40 +100,40 @@ module _ {A : Type 0} {F : Flow A} {n h : ℕ} (R : Ranked F n h) where
         stored b (no n) (inr (here p)) = absurd (n p)
         stored b (no n) (inr (there i)) = absurd (in-nil i)
 
-    within-push : {k : ℕ} (s : ℕ) (x : A) (r : Run A) → s < n → R .Fit x → Within bound k r → Within bound k (push F s x r)
+    within-push : {k : ℕ} (s : ℕ) (x : A) (r : Run A) → s < n → R .Fit x → VisitsWithin bound k r → VisitsWithin bound k (push F s x r)
     unfolding push push-at weight
     within-push {k} s x r l fx g = at (r .table s) refl
       where
-        met : (a : A) → r .table s ≡ some a → (d : Dec (F .meet a x ≡ a)) → Within bound k (pick d r (store F s (F .meet a x) r))
+        met : (a : A) → r .table s ≡ some a → (d : Dec (F .meet a x ≡ a)) → VisitsWithin bound k (pick d r (store F s (F .meet a x) r))
         met a e (yes p) = g
         met a e (no d) = within-store s (F .meet a x) r l (R .fit-meet a x (g .fit s a e) fx) (rw e (R .lower a x (g .fit s a e) fx d)) g
 
-        at : (o : Option A) → r .table s ≡ o → Within bound k (push-at F o s x r)
+        at : (o : Option A) → r .table s ≡ o → VisitsWithin bound k (push-at F o s x r)
         at none e = within-store s x r l fx (rw e (omega (arith, R .high x fx))) g
         at (some a) e = met a e (F .same (F .meet a x) a)
 
-    within-spread : {k : ℕ} (ss : List ℕ) (x : A) (r : Run A) → ((s : ℕ) → In s ss → s < n) → R .Fit x → Within bound k r → Within bound k (spread F ss x r)
+    within-spread : {k : ℕ} (ss : List ℕ) (x : A) (r : Run A) → ((s : ℕ) → In s ss → s < n) → R .Fit x → VisitsWithin bound k r → VisitsWithin bound k (spread F ss x r)
     unfolding spread
     within-spread [] x r l fx g = g
     within-spread (s ∷ ss) x r l fx g = within-spread ss x (push F s x r) (λ c i. l c (there i)) fx (within-push s x r (l s (here refl)) fx g)
 
     -- inside a visit of b: after the pushes to the first successors
     pub within-visit : {k : ℕ} {r : Run A} (b : ℕ) (q : List ℕ) (a : A) (pushed rest : List ℕ) → r .queue ≡ b ∷ q → r .table b ≡ some a → F .succs b ≡ pushed ++ rest
-        → Within bound k r → Within bound (suc k) (spread F pushed (F .result b a) (record { table = r .table; queue = q }))
+        → VisitsWithin bound k r → VisitsWithin bound (suc k) (spread F pushed (F .result b a) (record { table = r .table; queue = q }))
     within-visit {r} b q a pushed rest e f d g =
         within-spread pushed (F .result b a) _ (λ s i. R .succs-in b s (subst (In s) (sym d) (in-left rest i))) (R .fit-result b a (g .fit b a f)) (within-take b q e g)
 
     -- a whole visit
-    pub within-step : {k : ℕ} {r : Run A} (b : ℕ) (q : List ℕ) → r .queue ≡ b ∷ q → Within bound k r → Within bound (suc k) (step F r)
+    pub within-step : {k : ℕ} {r : Run A} (b : ℕ) (q : List ℕ) → r .queue ≡ b ∷ q → VisitsWithin bound k r → VisitsWithin bound (suc k) (step F r)
     unfolding step step-at visit-at
-    within-step {k} {r} b q e g = subst (λ (p : List ℕ). Within bound (suc k) (step-at F p r)) (sym e) (at (r .table b) refl)
+    within-step {k} {r} b q e g = subst (λ (p : List ℕ). VisitsWithin bound (suc k) (step-at F p r)) (sym e) (at (r .table b) refl)
       where
-        at : (o : Option A) → r .table b ≡ o → Within bound (suc k) (visit-at F o b (record { table = r .table; queue = q }))
+        at : (o : Option A) → r .table b ≡ o → VisitsWithin bound (suc k) (visit-at F o b (record { table = r .table; queue = q }))
         at none f = within-take b q e g
         at (some a) f = within-visit b q a (F .succs b) [] e f (sym (append-nil (F .succs b))) g
 
     -- so many visits as the bound still leaves end the run
-    pub within-ends : (more : ℕ) {k : ℕ} (r : Run A) → Within bound k r → bound ≤ k + more → (run F more r) .queue ≡ []
+    pub within-ends : (more : ℕ) {k : ℕ} (r : Run A) → VisitsWithin bound k r → bound ≤ k + more → (run F more r) .queue ≡ []
     unfolding run
     within-ends zero r g l = empty (r .queue) (omega (arith, within-queue g))
       where
@@ -142,18 +142,18 @@ module _ {A : Type 0} {F : Flow A} {n h : ℕ} (R : Ranked F n h) where
         empty (b ∷ q) z = absurd (omega arith)
     within-ends (suc more) {k} r g l = at (r .queue) refl (λ g′. within-ends more {k = suc k} (step F r) g′ (omega arith))
       where
-        at : (q : List ℕ) → r .queue ≡ q → (Within bound (suc k) (step F r) → (run F more (step F r)) .queue ≡ []) → (run F more (step F r)) .queue ≡ []
+        at : (q : List ℕ) → r .queue ≡ q → (VisitsWithin bound (suc k) (step F r) → (run F more (step F r)) .queue ≡ []) → (run F more (step F r)) .queue ≡ []
         at [] e rec = ap (λ (u : Run A). u .queue) (run-still F (suc more) r e) ∙ e
         at (b ∷ q) e rec = rec (within-step b q e g)
 
     -- it holds after any number of steps, of which those at an empty queue are no visits
-    pub within-run : (steps : ℕ) {k : ℕ} (r : Run A) → Within bound k r → (j : ℕ) × Within bound j (run F steps r)
+    pub within-run : (steps : ℕ) {k : ℕ} (r : Run A) → VisitsWithin bound k r → (j : ℕ) × VisitsWithin bound j (run F steps r)
     unfolding run
     within-run zero {k} r g = (k, g)
     within-run (suc steps) {k} r g = at (r .queue) refl (λ g′. within-run steps {k = suc k} (step F r) g′)
       where
-        at : (q : List ℕ) → r .queue ≡ q → (Within bound (suc k) (step F r) → (j : ℕ) × Within bound j (run F steps (step F r))) → (j : ℕ) × Within bound j (run F steps (step F r))
-        at [] e rec = (k, subst (Within bound k) (sym (run-still F (suc steps) r e)) g)
+        at : (q : List ℕ) → r .queue ≡ q → (VisitsWithin bound (suc k) (step F r) → (j : ℕ) × VisitsWithin bound j (run F steps (step F r))) → (j : ℕ) × VisitsWithin bound j (run F steps (step F r))
+        at [] e rec = (k, subst (VisitsWithin bound k) (sym (run-still F (suc steps) r e)) g)
         at (b ∷ q) e rec = rec (within-step b q e g)
 
   total-none : (m : ℕ) → total m (λ b. none) ≡ m * suc h
@@ -178,7 +178,7 @@ module _ {A : Type 0} {F : Flow A} {n h : ℕ} (R : Ranked F n h) where
   entry-visited before b (there i) = absurd (in-nil i)
 
   -- the start where no other block has a state
-  pub within-unvisited : Within (n * suc h) 0 (start (λ b. none))
+  pub within-unvisited : VisitsWithin (n * suc h) 0 (start (λ b. none))
   unfolding start potential weight
   within-unvisited = record {
     fit = fit-update (λ b. none) (F .entry) (F .first) (R .fit-first) (λ b a e. absurd (some-not-none refl e));
@@ -188,7 +188,7 @@ module _ {A : Type 0} {F : Flow A} {n h : ℕ} (R : Ranked F n h) where
   }
 
   -- the start where every other block has the state c
-  pub within-visited : (c : A) → R .Fit c → Within (1 + n * h) 0 (start (λ b. some c))
+  pub within-visited : (c : A) → R .Fit c → VisitsWithin (1 + n * h) 0 (start (λ b. some c))
   unfolding start potential weight update
   within-visited c fc = record {
     fit = fit;

@@ -2,13 +2,13 @@
 use Prim.Native.Nat.{_-_}
 use native.Mathlib.Omega.{arith}
 use lib.ListN.{length}
-use Rattle.frames.proofs.Laws.{Reading, reading-none, reading-left, line-ended, reading-more}
+use Rattle.frames.proofs.Laws.{LineReading, reading-none, reading-left, line-ended, reading-more}
 use borrow.Author.Needs.{needs}
 use Rattle.frames.proofs.read_line.Statement.{statement}
 use Rattle.frames.proofs.read_line.Tie as tie
 
 abbrev Inv-loop : tie.InvT-loop
-Inv-loop line₀ n₀ line n = Reading line₀ line n
+Inv-loop line₀ n₀ line n = LineReading line₀ line n
 
 abbrev μ-loop : tie.MeasureT-loop
 μ-loop line₀ n₀ line n = length line₀ - n

@@ -4,13 +4,13 @@ use mathlib.Core.Path.{refl}
 use Prim.Native.Nat.{_-_}
 use native.Mathlib.Omega.{arith}
 use lib.ListN.{length}
-use Rattle.records.proofs.LawsNumbers.{Reading, reading-none, reading-bad, reading-ninth, reading-more, reading-done}
+use Rattle.records.proofs.LawsNumbers.{NumbersReading, reading-none, reading-bad, reading-ninth, reading-more, reading-done}
 use borrow.Author.Needs.{needs}
 use Rattle.records.proofs.read_numbers.Statement.{statement}
 use Rattle.records.proofs.read_numbers.Tie as tie
 
 abbrev Inv-loop : tie.InvT-loop
-Inv-loop s at values₀ count₀ i₀ values count i = Reading s at count values i
+Inv-loop s at values₀ count₀ i₀ values count i = NumbersReading s at count values i
 
 abbrev μ-loop : tie.MeasureT-loop
 μ-loop s at values₀ count₀ i₀ values count i = length s - i
