@@ -61,7 +61,7 @@ module _ {s : Bytes} {at inst a : ℕ} (i : Next number-of s at inst a) where
         change-ends e = ends-here (t .behind) (t .line ∙ f .line ∙ k .line ∙ i .line) e
 
 -- a `C` within the counts
-pub record ChangeWithin (counts : Counts) (inst slot from to : ℕ) : Type 0 where
+pub record ChangeInside (counts : Counts) (inst slot from to : ℕ) : Type 0 where
   pub inst-most : inst ≤ 65535
   pub slot-below : slot < counts .slots
   pub from-fits : name-word from < 512
@@ -81,7 +81,7 @@ module _ {counts : Counts} (w : CountsWithin counts) (inst slot from to : ℕ) {
     to-passes : name-beyond (counted counts) (name-of-code to) ≡ false
     to-passes = sym et ∙ or-right bf bt names-pass
 
-    pub change-clear : ChangeWithin counts inst slot from to
+    pub change-clear : ChangeInside counts inst slot from to
     change-clear = record {
       inst-most = ltb-false 65535 inst (or-left _ _ z);
       slot-below = leb-false (counts .slots) slot (or-left _ _ (or-right (ltb 65535 inst) _ z));
@@ -103,7 +103,7 @@ module _ {counts : Counts} (w : CountsWithin counts) (inst slot from to : ℕ) {
     types = λ z. rw (erf, ert, is-typed-right w from (from-passes z) t, is-typed-right w to (to-passes z) t);
   }
 
-pub change-within : {counts : Counts} {inst slot from to from′ to′ : ℕ} → ChangeWithin counts inst slot from to → from′ ≡ name-word from → to′ ≡ name-word to
+pub change-within : {counts : Counts} {inst slot from to from′ to′ : ℕ} → ChangeInside counts inst slot from to → from′ ≡ name-word from → to′ ≡ name-word to
     → ChangeWithin (counts .slots) inst slot from′ to′
 change-within c e f =
     record { inst-most = c .inst-most; slot-below = c .slot-below; from-word = rw e (c .from-fits); to-word = rw f (c .to-fits) }

@@ -10,7 +10,7 @@ use Rattle.records.specs.Parts.{ChangeRead}
 use Rattle.records.specs.declared.Change.the-variants.{Value}
 use Rattle.records.specs.declared.Judged.the-variants.{Passes}
 use Rattle.records.proofs.LawsTold.{clear-of, judged-by, ill-formed, breaks, passes, in-place}
-use Rattle.records.proofs.LawsSteps.{ChangeWithin, change-tested, change-clear, change-within}
+use Rattle.records.proofs.LawsSteps.{ChangeInside, change-tested, change-clear, change-within}
 use borrow.Author.Needs.{needs}
 use Rattle.records.proofs.change_line.Statement.{statement}
 use Rattle.records.proofs.change_line.Tie as tie
@@ -42,7 +42,7 @@ judged l so p h t =
 
 -- where it passes the values are within the counts
 within : (l : tie.After-lowest) → l .lowest .result ≡ Passes → let r = read-of l .read in
-    ChangeWithin (start-of (read-of l) .args .counts) (r .given .0 .0) (r .given .0 .1 .0) (r .given .0 .1 .1 .0) (r .given .0 .1 .1 .1 .0)
+    ChangeInside (start-of (read-of l) .args .counts) (r .given .0 .0) (r .given .0 .1 .0) (r .given .0 .1 .1 .0) (r .given .0 .1 .1 .1 .0)
 within l z =
     let n = l .before .before .before in
     change-clear (start-of (read-of l) .pre .2) _ _ _ _ (n .before .name-beyond .ensures) (n .name-beyond2 .ensures) (clear-of (l .lowest .ensures) z .within)
