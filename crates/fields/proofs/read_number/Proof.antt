@@ -75,7 +75,9 @@ returns-3 : tie.Need-returns-3 Inv-loop μ-loop
 returns-3 c =
     let t = c .before .before in
     let l = t .before .before .before in
-    (led-other (l .before .loop .inv) (l .loop-test .taken) (sym (c .before .ends-field .ensures) ∙ c .if4 .left) (sym (t .before .is-digit2 .ensures) ∙ not-true _ (t .if3 .taken)), tt)
+    let inner = sym (c .before .ends-field .ensures) ∙ c .if4 .left in
+    let other = sym (t .before .is-digit2 .ensures) ∙ not-true _ (t .if3 .taken) in
+    (led-other (l .before .loop .inv) (l .loop-test .taken) inner other, tt)
 
 returns-4 : tie.Need-returns-4 Inv-loop μ-loop
 returns-4 c =
@@ -118,7 +120,8 @@ returns-6 c =
 returns-7 : tie.Need-returns-7 Inv-loop μ-loop
 returns-7 c =
     let l = c .before .before .before .before .before in
-    (led-good (l .before .loop .inv) (field-stop _ _ (l .loop-test .taken) (sym (c .before .ends-field .ensures) ∙ c .if4 .taken)), l .before .loop .inv .within)
+    let ended = field-stop _ _ (l .loop-test .taken) (sym (c .before .ends-field .ensures) ∙ c .if4 .taken) in
+    (led-good (l .before .loop .inv) ended, l .before .loop .inv .within)
 
 pub read-number-spec : {M : Type 1} → statement M
 read-number-spec =
