@@ -1,10 +1,9 @@
 //! Before anything is timed: the answers of both sides to every function are the same.
 
-use crate::generate::TIMED_KINDS;
 use crate::house::house_faults;
 use crate::old;
 use crate::ours::{Ours, Verdict, ACCEPTED, REFUSED};
-use crate::parts::Function;
+use crate::parts::{Choice, Function};
 use crate::plain::{reached, Wrong};
 use crate::report::{report, Fault};
 
@@ -14,6 +13,7 @@ pub struct Counts {
     functions: [usize; 3],
     accepted_old: [usize; 3],
     accepted_house: [usize; 3],
+    bytes: usize,
     blocks: usize,
     reached: usize,
     steps: usize,
@@ -61,14 +61,15 @@ impl Counts {
         self.accepted_old[function.kind] += old as usize;
         self.accepted_house[function.kind] += house as usize;
         let sheet = &function.sheet;
+        self.bytes += function.text.len();
         self.blocks += sheet.blocks.len();
         self.reached += reached(sheet).iter().filter(|reached| **reached).count();
         self.steps += sheet.blocks.iter().map(|block| block.steps.len()).sum::<usize>();
         self.visits += visits;
     }
 
-    pub fn print(&self) {
-        for (kind, name) in TIMED_KINDS.iter().enumerate() {
+    pub fn print(&self, choice: Choice) {
+        for (kind, name) in choice.kinds().iter().enumerate() {
             println!(
                 "{}: {}, accepted under the old rule {}, under the house rule {}",
                 name, self.functions[kind], self.accepted_old[kind], self.accepted_house[kind]
@@ -76,7 +77,8 @@ impl Counts {
         }
         let total = self.functions.iter().sum::<usize>() as f64;
         println!(
-            "on average {:.0} blocks ({:.0} reached), {:.0} steps, {:.0} visits by the old run",
+            "on average {:.0} bytes, {:.0} blocks ({:.0} reached), {:.0} steps, {:.0} visits by the old run",
+            self.bytes as f64 / total,
             self.blocks as f64 / total,
             self.reached as f64 / total,
             self.steps as f64 / total,

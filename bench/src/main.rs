@@ -41,21 +41,22 @@ use stand_ins::{
 };
 
 use ours::Ours;
-use parts::{Function as Timed, Part, PARTS};
+use parts::{Choice, Function as Timed, Part, PARTS};
 
 const USAGE: &str = "usage:
-  bench time N SEED ROUNDS    times both sides on N functions
-  bench agree N SEED          compares both sides' answers to N functions
-  bench count PART N SEED     runs one part once on each function, for a counter of instructions;
-                              PART: none, clear, load, old, house, read, build or run";
+  bench time N SEED CHOICE ROUNDS    times both sides on N functions
+  bench agree N SEED CHOICE          compares both sides' answers to N functions
+  bench count N SEED CHOICE PART     runs one part once on each function, for a counter of instructions
+CHOICE: timed, functions of 40 to 64 blocks; long, such with sheets of nearly 65,536 bytes
+PART: none, clear, load, old, house, read, build or run";
 
 fn main() {
     let arguments: Vec<String> = std::env::args().skip(1).collect();
     let words: Vec<&str> = arguments.iter().map(|word| word.as_str()).collect();
     let result = match words.as_slice() {
-        ["time", n, seed, rounds] => number(n).and_then(|n| time(n, number(seed)?, number(rounds)?)),
-        ["agree", n, seed] => number(n).and_then(|n| agree(n, number(seed)?)),
-        ["count", part, n, seed] => number(n).and_then(|n| count(part, n, number(seed)?)),
+        ["time", n, seed, choice, rounds] => chosen(n, seed, choice).and_then(|chosen| time(chosen, number(rounds)?)),
+        ["agree", n, seed, choice] => chosen(n, seed, choice).and_then(agree),
+        ["count", n, seed, choice, part] => chosen(n, seed, choice).and_then(|chosen| count(chosen, part)),
         _ => Err(USAGE.to_string()),
     };
     if let Err(message) = result {
@@ -70,13 +71,31 @@ fn number(word: &str) -> Result<u64, String> {
     number.ok_or(format!("{} is not a number above 0", word))
 }
 
-fn functions(n: u64, seed: u64) -> Vec<Timed> {
-    (0..n).map(|index| Timed::of(seed, index)).collect()
+/// The functions that are asked for.
+struct Chosen {
+    n: u64,
+    seed: u64,
+    choice: Choice,
+}
+
+fn chosen(n: &str, seed: &str, choice: &str) -> Result<Chosen, String> {
+    let choice = match choice {
+        "timed" => Choice::Timed,
+        "long" => Choice::Long,
+        _ => return Err(USAGE.to_string()),
+    };
+    Ok(Chosen { n: number(n)?, seed: number(seed)?, choice })
+}
+
+impl Chosen {
+    fn functions(&self) -> Vec<Timed> {
+        (0..self.n).map(|index| Timed::of(self.choice, self.seed, index)).collect()
+    }
 }
 
 /// Both sides in turn on each function, and so in each round; the median of the rounds counts.
-fn time(n: u64, seed: u64, rounds: u64) -> Result<(), String> {
-    let mut functions = functions(n, seed);
+fn time(chosen: Chosen, rounds: u64) -> Result<(), String> {
+    let mut functions = chosen.functions();
     let mut ours = Ours::new();
     let counts = agree::all(&functions, &mut ours)?;
     for round in 0..rounds {
@@ -84,19 +103,21 @@ fn time(n: u64, seed: u64, rounds: u64) -> Result<(), String> {
             function.time(&mut ours, round % 2 == 0);
         }
     }
-    println!("{} functions of 40 to 64 blocks, seed {}, {} rounds", n, seed, rounds);
-    counts.print();
-    table::print(&functions);
+    println!("{} functions, seed {}, {} rounds", chosen.n, chosen.seed, rounds);
+    counts.print(chosen.choice);
+    table::print(chosen.choice, &functions);
     Ok(())
 }
 
-fn agree(n: u64, seed: u64) -> Result<(), String> {
-    agree::all(&functions(n, seed), &mut Ours::new()).map(|_| ())
+fn agree(chosen: Chosen) -> Result<(), String> {
+    let counts = agree::all(&chosen.functions(), &mut Ours::new())?;
+    counts.print(chosen.choice);
+    Ok(())
 }
 
 /// One part alone. `none` is what the program does besides.
-fn count(part: &str, n: u64, seed: u64) -> Result<(), String> {
-    let functions = functions(n, seed);
+fn count(chosen: Chosen, part: &str) -> Result<(), String> {
+    let functions = chosen.functions();
     let mut ours = Ours::new();
     if part == "none" {
         return Ok(());

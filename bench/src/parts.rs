@@ -1,11 +1,29 @@
 //! The parts that are timed, on either side, and a function with its times.
 
-use crate::generate::{timed, TIMED_KINDS};
+use crate::generate::{long, timed, TIMED_KINDS};
 use crate::old::{build, Built};
 use crate::ours::Ours;
 use crate::sheet::{read, Sheet};
 use std::hint::black_box;
 use std::time::Instant;
+
+/// Which functions are timed.
+#[derive(Clone, Copy, PartialEq, Eq)]
+pub enum Choice {
+    /// Of 40 to 64 blocks.
+    Timed,
+    /// Those whose sheets are nearly as long as a sheet may be.
+    Long,
+}
+
+impl Choice {
+    pub fn kinds(self) -> &'static [&'static str] {
+        match self {
+            Choice::Timed => &TIMED_KINDS,
+            Choice::Long => &["long"],
+        }
+    }
+}
 
 #[derive(Clone, Copy, PartialEq, Eq)]
 pub enum Part {
@@ -46,12 +64,15 @@ pub struct Function {
 }
 
 impl Function {
-    pub fn of(seed: u64, index: u64) -> Function {
-        let sheet = timed(seed, index);
+    pub fn of(choice: Choice, seed: u64, index: u64) -> Function {
+        let sheet = match choice {
+            Choice::Timed => timed(seed, index),
+            Choice::Long => long(seed, index),
+        };
         let text = sheet.text();
         let mut longer = text.clone();
         longer.push(b'\n');
-        let kind = index as usize % TIMED_KINDS.len();
+        let kind = index as usize % choice.kinds().len();
         Function { kind, sheet, text, longer, times: Default::default() }
     }
 

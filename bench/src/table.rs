@@ -1,7 +1,6 @@
 //! The ratios, and the medians that they come from.
 
-use crate::generate::TIMED_KINDS;
-use crate::parts::{median, share, Function, Part};
+use crate::parts::{median, share, Choice, Function, Part};
 
 /// A time of a function that is made of its parts.
 type Time = fn(&Function) -> f64;
@@ -74,16 +73,16 @@ const TIMES: [(&str, Time); 8] = [
     ("oracle's reader and Rust's build", rust_loads),
 ];
 
-pub fn print(functions: &[Function]) {
+pub fn print(choice: Choice, functions: &[Function]) {
     println!();
     print!("{:42}{:>10}", "ratio of the sums", "all");
-    for kind in TIMED_KINDS.iter() {
+    for kind in choice.kinds() {
         print!("{:>12}", kind);
     }
     println!("{:>20}", "10th .. 90th of 100");
     for (name, over, under) in RATIOS.iter() {
         print!("{:42}{:>10.2}", name, ratio(functions, None, *over, *under));
-        for kind in 0..TIMED_KINDS.len() {
+        for kind in 0..choice.kinds().len() {
             print!("{:>12.2}", ratio(functions, Some(kind), *over, *under));
         }
         let each: Vec<f64> = functions.iter().map(|f| over(f) / under(f)).collect();

@@ -744,6 +744,51 @@ pub fn timed(seed: u64, index: u64) -> Sheet {
     }
 }
 
+/// The bytes that a long function's sheet has at least; 65,536 are the most.
+const LONG: usize = 60_000;
+
+/// A function that bench/ times, whose sheet is nearly as long as a sheet may be: operations of many operands. A block uses what it
+/// defined itself, so both rules accept it. Its insts never fall.
+pub fn long(seed: u64, index: u64) -> Sheet {
+    let random = &mut Random::of(seed, index);
+    loop {
+        let mut sheet = Sheet { regs: REGS_LIMIT, vregs: VREGS_LIMIT, ..Sheet::default() };
+        choose_reftyped(random, &mut sheet);
+        graph(random, &mut sheet, BLOCKS_LIMIT as usize, TIMED.succs);
+        for block in &mut sheet.blocks {
+            block.steps = wide_operations(random);
+        }
+        rise(&mut random.clone(), &mut sheet, 0, false);
+        if sheet.text().len() >= LONG && is_timed(&sheet) {
+            return sheet;
+        }
+    }
+}
+
+/// Operations of one block: each uses some of the names that stand where this block put them, and defines others.
+fn wide_operations(random: &mut Random) -> Vec<Step> {
+    let mut known: Vec<Operand> = Vec::new();
+    let mut steps = Vec::new();
+    for _ in 0..random.within(8, 18) {
+        let mut uses = known.clone();
+        let most = random.within(0, OPERANDS_LIMIT);
+        while uses.len() > most {
+            uses.swap_remove(random.below(uses.len()));
+        }
+        let mut defs: Vec<Operand> = Vec::new();
+        for _ in 0..random.within(2, OPERANDS_LIMIT) {
+            let name = Name::Virtual(random.number(VREGS_LIMIT));
+            let reg = Some(random.number(REGS_LIMIT));
+            defs.retain(|o| o.name != name && o.reg != reg);
+            known.retain(|o| o.name != name && o.reg != reg);
+            defs.push(Operand { name, reg });
+        }
+        known.extend_from_slice(&defs);
+        steps.push(Step::Op { inst: 0, uses, defs });
+    }
+    steps
+}
+
 /// Are 40 blocks or more reached, is the sheet not refused, and does no step lack an allocation? At one
 /// that does either side would stop before it checks.
 fn is_timed(sheet: &Sheet) -> bool {

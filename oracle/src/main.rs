@@ -43,6 +43,7 @@ const USAGE: &str = "usage:
   oracle self-test N SEED            the tests of the tests
   oracle sheet SEED INDEX            writes one generated sheet
   oracle timed SEED INDEX            writes one function that bench/ times
+  oracle long SEED INDEX             writes one whose sheet is nearly 65,536 bytes long
   oracle store FOLDER N SEED         writes the stored lists, chosen from N sheets
   oracle check-stored FOLDER         holds the stored lists against the oracle";
 
@@ -59,8 +60,9 @@ fn main() {
         ["pairs", pairs, seed, command] => {
             number(pairs).and_then(|n| pairs::drive(n, number(seed)?, command))
         }
-        ["sheet", seed, index] => number(seed).and_then(|s| one_sheet(s, number(index)?)),
-        ["timed", seed, index] => number(seed).and_then(|s| one_timed(s, number(index)?)),
+        ["sheet", seed, index] => number(seed).and_then(|s| written(&generate::generate(s, number(index)?).1)),
+        ["timed", seed, index] => number(seed).and_then(|s| written(&generate::timed(s, number(index)?).text())),
+        ["long", seed, index] => number(seed).and_then(|s| written(&generate::long(s, number(index)?).text())),
         ["self-test", sheets, seed] => {
             number(sheets).and_then(|n| selftest::run(n, number(seed)?))
         }
@@ -100,14 +102,8 @@ fn speak(old: Old, wrong: Wrong) -> Result<(), String> {
     frames::speak(&mut stdin.lock(), &mut out, old, wrong)
 }
 
-fn one_sheet(seed: u64, index: u64) -> Result<(), String> {
-    let (_, sheet) = generate::generate(seed, index);
-    io::stdout().write_all(&sheet).map_err(|e| e.to_string())
-}
-
-fn one_timed(seed: u64, index: u64) -> Result<(), String> {
-    let sheet = generate::timed(seed, index).text();
-    io::stdout().write_all(&sheet).map_err(|e| e.to_string())
+fn written(sheet: &[u8]) -> Result<(), String> {
+    io::stdout().write_all(sheet).map_err(|e| e.to_string())
 }
 
 fn drive(sheets: u64, seed: u64, command: &str) -> Result<(), String> {

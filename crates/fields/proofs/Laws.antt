@@ -1,149 +1,157 @@
 -- What the loop of `read_number` holds, and what each way out of it tells; and the room of a number written digit by digit.
-use mathlib.Core.Path.{_≡_, refl, sym, ap, _∙_}
-use mathlib.Core.Bool.{true, false, _&&_, true≢false, and-false, and-assoc}
+use mathlib.Core.Path.{_≡_, refl, sym, _∙_}
+use mathlib.Core.Bool.{true, false, and-false}
 use mathlib.Core.List.{[], _∷_, _++_, append-nil, append-assoc}
-use Prim.Native.Nat.{ℕ, zero, suc, _+_, _-_, _*_, _≤_, _<_}
-use native.Mathlib.Numerals.{add-one}
+use mathlib.Core.Option.{none}
+use Prim.Native.Nat.{ℕ, suc, _+_, _-_, _*_, _/_, _%_, _≤_, _<_}
 use native.Mathlib.Omega.{arith}
-use borrow.Author.Tests.{eq-eqb, ne-eqb, lt-ltb, le-leb, lt-leb, eqb-true}
-use lib.Dec.{eqb}
+use borrow.Author.Tests.{lt-ltb, le-leb, lt-leb}
 use lib.ListN.{length, getD, length-append}
-use Rattle.lists.specs.Split.{by-order, and-left, and-right}
-use Rattle.paper.specs.Text.{Bytes, is-digit, all-digits, leading-zero, is-number, value-from, number-of, digit-from, digits}
+use Rattle.lists.specs.Split.{by-test, by-order}
+use Rattle.paper.specs.Text.{Bytes, is-digit, all-digits, leading-zero, is-number, number-of, digit-from, digits}
 use Rattle.fields.specs.Fields.{ends-field, field-at, field-end, number-told, number-at, Within}
-use Rattle.fields.specs.Spelling.{digit-range}
-use Rattle.fields.specs.Cursor.{field-more, field-past, field-end-inside}
+use Rattle.fields.specs.Spelling.{digit-range, number-of-digits}
+use Rattle.fields.specs.Cursor.{field-past, field-stop, field-more}
 use Rattle.fields.specs.declared.Number.the-variants as number
+use Rattle.fields.proofs.Letters.{letter-inner}
 
--- a field read as far as its first n digits, up to i
+-- a number's digits: one alone, one more behind them, and where there are five
 
--- one more than the largest number of n digits
-unfoldable pub lim : ℕ → ℕ
-lim zero = 1
-lim (suc n) = lim n * 10
+digit-none : (u v : ℕ) → v < u → digit-from u v ≡ []
+unfolding digit-from
+digit-none u v h = rw (lt-leb u v h)
 
-pub lim-small : (n : ℕ) → n ≤ 5 → lim n ≤ 100000
-unfolding lim
-lim-small zero h = omega arith
-lim-small (suc zero) h = omega arith
-lim-small (suc (suc zero)) h = omega arith
-lim-small (suc (suc (suc zero))) h = omega arith
-lim-small (suc (suc (suc (suc zero)))) h = omega arith
-lim-small (suc (suc (suc (suc (suc zero))))) h = omega arith
-lim-small (suc (suc (suc (suc (suc (suc n)))))) h = absurd (omega arith)
+digit-some : (u v q : ℕ) → u ≤ v → v / u ≡ q → digit-from u v ≡ (48 + q % 10) ∷ []
+unfolding digit-from
+digit-some u v q h e = rw (le-leb u v h, e)
 
-pub record Digits (s : Bytes) (at v n i : ℕ) : Type 0 where
-  pub done : Bytes
-  pub whole : field-at s at ≡ done ++ field-at s i
-  pub count : length done ≡ n
-  pub place : i ≡ at + n
-  pub all : all-digits done ≡ true
-  pub value : value-from 0 done ≡ v
-  pub plain : leading-zero done ≡ false
-  pub most : n ≤ 5
-  pub small : v < lim n
+-- the digit of v at u stands at t in w
+digit-same : (t u w v : ℕ) → (u ≤ v → t ≤ w) → (v < u → w < t) → w / t ≡ v / u → digit-from t w ≡ digit-from u v
+digit-same t u w v more less e =
+    by-order v u
+    (λ h. digit-none t w (less h) ∙ sym (digit-none u v h))
+    λ h. digit-some t w _ (more h) e ∙ sym (digit-some u v _ h refl)
 
-all-append : (xs ys : Bytes) → all-digits (xs ++ ys) ≡ (all-digits xs && all-digits ys)
+digits-first : (b : ℕ) → is-digit b ≡ true → digits (b - 48) ≡ b ∷ []
+unfolding digits
+digits-first b g =
+    let r = digit-range b g in
+    let v : ℕ = b - 48 in
+    let last : 48 + v % 10 ≡ b = omega arith in
+    rw (digit-none 10000 v (omega arith), digit-none 1000 v (omega arith), digit-none 100 v (omega arith), digit-none 10 v (omega arith), last)
+
+digits-next : (v b : ℕ) → (v ≡ 0 → ⊥) → v ≤ 9999 → is-digit b ≡ true → digits (v * 10 + (b - 48)) ≡ digits v ++ (b ∷ [])
+unfolding digits
+digits-next v b z m g =
+    let r = digit-range b g in
+    let w : ℕ = v * 10 + (b - 48) in
+    let last : 48 + w % 10 ≡ b = omega arith in
+    rw (
+      digit-same 10000 1000 w v (λ h. omega arith) (λ h. omega arith) (omega arith),
+      digit-same 1000 100 w v (λ h. omega arith) (λ h. omega arith) (omega arith),
+      digit-same 100 10 w v (λ h. omega arith) (λ h. omega arith) (omega arith),
+      digit-some 10 w v (omega arith) (omega arith),
+      last,
+      digit-none 10000 v (omega arith),
+      append-assoc,
+      append-assoc,
+      append-assoc,
+    )
+
+digits-five : (v : ℕ) → 10000 ≤ v → length (digits v) ≡ 5
+unfolding digits
+digits-five v h =
+    rw (digit-some 10000 v _ h refl, digit-some 1000 v _ (omega arith) refl, digit-some 100 v _ (omega arith) refl, digit-some 10 v _ (omega arith) refl)
+
+-- what is no number: a field with a byte that is no digit, or with a byte behind a zero or behind five digits
+
+no-digit : (ds : Bytes) (b : ℕ) (bs : Bytes) → is-digit b ≡ false → all-digits (ds ++ b ∷ bs) ≡ false
 unfolding all-digits
-all-append [] ys = refl
-all-append (x ∷ xs) ys = rw (all-append xs ys) (sym (and-assoc (is-digit x) (all-digits xs) (all-digits ys)))
+no-digit [] b bs g = rw g
+no-digit (d ∷ ds) b bs g = rw (no-digit ds b bs g) (and-false (is-digit d))
 
-value-append : (v : ℕ) (xs ys : Bytes) → value-from v (xs ++ ys) ≡ value-from (value-from v xs) ys
-unfolding value-from
-value-append v [] ys = refl
-value-append v (x ∷ xs) ys = value-append _ xs ys
+module _ (b : ℕ) (bs : Bytes) where
+  none-digit : (ds : Bytes) → is-digit b ≡ false → number-of (ds ++ b ∷ bs) ≡ none
+  unfolding number-of is-number
+  none-digit ds g = rw (no-digit ds b bs g, and-false)
 
-plain-more : (done : Bytes) (b : ℕ) → all-digits done ≡ true → leading-zero done ≡ false → (length done ≡ 1 → value-from 0 done ≡ 0 → ⊥)
-    → leading-zero (done ++ (b ∷ [])) ≡ false
-unfolding leading-zero value-from
-plain-more [] b d l h = refl
-plain-more (x ∷ []) b d l h = rw (ne-eqb x 48 (λ e. h refl (omega arith)))
-plain-more (x ∷ y ∷ xs) b d l h =
-    rw (lt-ltb 1 (suc (suc (length (xs ++ (b ∷ []))))) (omega arith)) (rw (lt-ltb 1 (suc (suc (length xs))) (omega arith)) at l)
+  none-zero : number-of (digits 0 ++ b ∷ bs) ≡ none
+  unfolding number-of is-number leading-zero digits digit-from
+  none-zero = rw (lt-ltb 1 (suc (suc (length bs))) (omega arith), and-false)
 
-lead-of : (done : Bytes) (b : ℕ) (bs : Bytes) → length done ≡ 1 → all-digits done ≡ true → value-from 0 done ≡ 0
-    → leading-zero (done ++ b ∷ bs) ≡ true
-unfolding leading-zero value-from all-digits
-lead-of [] b bs n d v = absurd (omega arith)
-lead-of (x ∷ []) b bs n d v =
-    rw (lt-ltb 1 (suc (suc (length bs))) (omega arith), eq-eqb x 48 (omega (arith, digit-range x (and-left _ _ d))))
-lead-of (x ∷ y ∷ xs) b bs n d v = absurd (omega arith)
+  none-many : (v : ℕ) → 9999 < v → number-of (digits v ++ b ∷ bs) ≡ none
+  unfolding number-of is-number
+  none-many v m = rw (length-append, lt-leb (length (digits v) + suc (length bs)) 5 (omega (arith, digits-five v m)), and-false)
 
-pub digits-none : (s : Bytes) (at : ℕ) → Digits s at 0 0 at
-unfolding all-digits value-from leading-zero lim
-digits-none s at = record {
-  done = [];
-  whole = refl;
-  count = refl;
-  place = omega arith;
-  all = refl;
-  value = refl;
-  plain = refl;
-  most = omega arith;
-  small = omega arith;
-}
+module _ (s : Bytes) (at : ℕ) where
+  bad : {f : Bytes} → field-at s at ≡ f → number-of f ≡ none → number.Bad ≡ number-at s at
+  unfolding number-at number-told
+  bad e n = rw (e, n)
 
-module _ {s : Bytes} {at v n i : ℕ} (d : Digits s at v n i) where
-  module _ (h : i < length s) (f : ends-field (getD s i 0) ≡ false) where
-    pub digits-more : is-digit (getD s i 0) ≡ true → (n ≡ 5 → ⊥) → (eqb n 1 && eqb v 0) ≡ false → Digits s at (v * 10 + (getD s i 0 - 48)) (n + 1) (i + 1)
-    unfolding all-digits value-from lim
-    digits-more g five lead =
-        let b : ℕ = getD s i 0 in
-        record {
-          done = d .done ++ (b ∷ []);
-          whole = rw (d .whole, field-more s i h f, append-assoc);
-          count = rw (length-append) (omega (arith, d .count));
-          place = omega (arith, d .place);
-          all = rw (all-append (d .done) (b ∷ []), d .all, g);
-          value = rw (value-append 0 (d .done) (b ∷ []), d .value);
-          plain = plain-more (d .done) b (d .all) (d .plain) (λ p q. true≢false (sym (rw (eq-eqb n 1 (sym (d .count) ∙ p), eq-eqb v 0 (sym (d .value) ∙ q))) ∙ lead));
-          most = omega (arith, d .most);
-          small = rw add-one (omega (arith, d .small, digit-range b g));
-        }
+  bad-empty : field-at s at ≡ [] → number.Bad ≡ number-at s at
+  unfolding number-of is-number
+  bad-empty e = bad e refl
 
+  -- the text or the field ends here, or begins with no digit
+  pub bad-past : length s ≤ at → number.Bad ≡ number-at s at
+  bad-past h = bad-empty (field-past s at h)
+
+  pub bad-first : at < length s → is-digit (getD s at 0) ≡ false → number.Bad ≡ number-at s at
+  bad-first h g =
+      by-test (ends-field (getD s at 0))
+      (λ e. bad-empty (field-stop s at h e))
+      λ e. bad (field-more s at h e) (none-digit _ _ [] g)
+
+digit-inner : (b : ℕ) → is-digit b ≡ true → ends-field b ≡ false
+digit-inner b g = letter-inner b (omega (arith, digit-range b g))
+
+-- the field at `at` read up to i: the one spelling of v, so v tells how many digits there are
+pub record Led (s : Bytes) (at v i : ℕ) : Type 0 where
+  pub whole : field-at s at ≡ digits v ++ field-at s i
+  pub place : i ≡ at + length (digits v)
+  pub within : Within s at v i
+
+pub led-first : (s : Bytes) (at : ℕ) → at < length s → is-digit (getD s at 0) ≡ true → Led s at (getD s at 0 - 48) (at + 1)
+led-first s at h g =
+    let r = digit-range (getD s at 0) g in
+    record {
+      whole = rw (digits-first (getD s at 0) g) (field-more s at h (digit-inner _ g));
+      place = rw (digits-first (getD s at 0) g);
+      within = record { small = omega arith; further = omega arith; inside = omega arith };
+    }
+
+module _ {s : Bytes} {at v i : ℕ} (l : Led s at v i) where
+  module _ (h : i < length s) where
     -- the field goes on with this byte
-    goes : field-at s at ≡ d .done ++ getD s i 0 ∷ field-at s (i + 1)
-    goes = d .whole ∙ rw (field-more s i h f)
+    goes : ends-field (getD s i 0) ≡ false → field-at s at ≡ digits v ++ getD s i 0 ∷ field-at s (i + 1)
+    goes f = l .whole ∙ rw (field-more s i h f)
 
-    pub bad-digit : is-digit (getD s i 0) ≡ false → number.Bad ≡ number-at s at
-    unfolding number-at number-told number-of is-number all-digits
-    bad-digit g = rw (goes, all-append (d .done) (getD s i 0 ∷ field-at s (i + 1)), g, and-false, and-false)
+    pub led-other : ends-field (getD s i 0) ≡ false → is-digit (getD s i 0) ≡ false → number.Bad ≡ number-at s at
+    led-other f g = bad s at (goes f) (none-digit _ _ (digits v) g)
 
-    pub bad-count : n ≡ 5 → number.Bad ≡ number-at s at
-    unfolding number-at number-told number-of is-number
-    bad-count e = rw (goes, length-append, lt-leb (length (d .done) + suc (length (field-at s (i + 1)))) 5 (omega (arith, d .count)), and-false)
+    module _ (g : is-digit (getD s i 0) ≡ true) where
+      pub led-zero : v ≡ 0 → number.Bad ≡ number-at s at
+      led-zero z = bad s at (goes (digit-inner _ g)) (rw z (none-zero _ _))
 
-    pub bad-lead : (eqb n 1 && eqb v 0) ≡ true → number.Bad ≡ number-at s at
-    unfolding number-at number-told number-of is-number
-    bad-lead t =
-        let e : n ≡ 1 = eqb-true n 1 (and-left _ _ t) in
-        let z : v ≡ 0 = eqb-true v 0 (and-right (eqb n 1) (eqb v 0) t) in
-        rw (goes, lead-of (d .done) (getD s i 0) (field-at s (i + 1)) (d .count ∙ e) (d .all) (d .value ∙ z), and-false)
+      pub led-many : 9999 < v → number.Bad ≡ number-at s at
+      led-many m = bad s at (goes (digit-inner _ g)) (none-many _ _ v m)
+
+      pub led-more : (v ≡ 0 → ⊥) → v ≤ 9999 → Led s at (v * 10 + (getD s i 0 - 48)) (i + 1)
+      led-more z m =
+          let r = digit-range (getD s i 0) g in
+          let e = digits-next v (getD s i 0) z m g in
+          record {
+            whole = rw (e, append-assoc) (goes (digit-inner _ g));
+            place = rw (e, length-append) (omega (arith, l .place));
+            within = record { small = omega arith; further = omega (arith, l .within .further); inside = omega arith };
+          }
 
   -- the field ends here
-  module _ (e : field-at s i ≡ []) where
-    ended : field-at s at ≡ d .done
-    ended = d .whole ∙ rw (e, append-nil)
-
-    pub bad-none : n ≡ 0 → number.Bad ≡ number-at s at
-    unfolding number-at number-told number-of is-number
-    bad-none z = rw (ended, d .count, z)
-
-    pub good : (n ≡ 0 → ⊥) → number.Value v i ≡ number-at s at
-    unfolding number-at number-told number-of is-number field-end
-    good z =
-        rw (ended, d .count, le-leb 1 n (omega arith), le-leb n 5 (d .most), d .all, d .plain, d .value, ← d .place)
-
-    pub within : (n ≡ 0 → ⊥) → Within s at v i
-    unfolding field-end
-    within z = record {
-      small = omega (arith, d .small, lim-small n (d .most));
-      further = omega (arith, d .place);
-      inside =
-          by-order at (length s)
-          (λ h. omega (arith, field-end-inside s at (omega arith), ap length ended, d .count, d .place))
-          λ h. absurd (z (omega (arith, ap length (field-past s at h), ap length ended, d .count)));
-    }
+  pub led-good : field-at s i ≡ [] → number.Value v i ≡ number-at s at
+  unfolding number-at number-told field-end
+  led-good e =
+      let whole : field-at s at ≡ digits v = l .whole ∙ rw (e, append-nil) in
+      rw (whole, number-of-digits v (l .within .small), ← l .place)
 
 -- a number written digit by digit
 

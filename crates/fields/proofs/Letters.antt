@@ -43,8 +43,8 @@ unfolding allocation-told number-told
 allocated-told next none = refl
 allocated-told next (some r) = refl
 
--- a letter ends no field
-letter-inner : (b : ℕ) → 10 < b → ends-field b ≡ false
+-- a letter or a digit ends no field
+pub letter-inner : (b : ℕ) → 10 < b → ends-field b ≡ false
 unfolding ends-field
 letter-inner b h = rw (ne-eqb b 9 (omega arith), ne-eqb b 10 (omega arith))
 

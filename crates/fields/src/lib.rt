@@ -64,32 +64,33 @@ pub fn read_number(s: &[u8], at: usize) -> Number
     ensures { λ r. ⌜ r ≡ number-at (now (s .entry)) at ⌝ }
     ensures within { λ r. ⌜ NumberWithin (now (s .entry)) at r ⌝ }
 {
-    let mut v: u32 = 0;
-    let mut n: u32 = 0;
-    let mut i = at;
+    if s.len() <= at {
+        return Number::Bad;
+    }
+    let first = s[at];
+    if !is_digit(first) {
+        return Number::Bad;
+    }
+    let mut v = (first - b'0') as u32;
+    let mut i = at + 1;
     while i < s.len() {
         let b = s[i];
-        if ends_field(b) {
-            break;
-        }
         if !is_digit(b) {
+            if ends_field(b) {
+                break;
+            }
             return Number::Bad;
         }
-        if n == 5 {
+        if v == 0 {
             return Number::Bad;
         }
-        if (n == 1) & (v == 0) {
+        if 9999 < v {
             return Number::Bad;
         }
         v = v * 10 + (b - b'0') as u32;
-        n += 1;
         i += 1;
     }
-    if n == 0 {
-        Number::Bad
-    } else {
-        Number::Value(v, i)
-    }
+    Number::Value(v, i)
 }
 
 // The name that the field at `at` says.
