@@ -1,13 +1,70 @@
 // Runs a stored list of sheets: standard input is frames, each sheet followed by what is stored of it. What is stored is computed
 // anew and compared; the last line says how many sheets differ.
+ghost use mathlib.Core.Path.{_≡_};
+ghost use Rattle.stored.specs.Counted as told;
 use frames::Frame;
 use layout::QUEUE_SIZE;
 use layout::REPORT_SIZE;
 use layout::WORDS_SIZE;
 use paper::Rule;
 use states::Part;
-use tally::Outcome;
-use tally::Tally;
+
+// The most sheets of one kind that are counted.
+const MOST: u64 = 1000000;
+
+// What one sheet came to.
+pub enum Outcome {
+    Same,
+    Different,
+    End,
+}
+
+// How many sheets were the same and how many not, and whether the list goes on.
+pub struct Tally {
+    pub same: u64,
+    pub different: u64,
+    pub more: bool,
+}
+
+// One more, where it can be counted.
+fn next(n: u64) -> u64
+    ensures { λ r. ⌜ r ≡ told.next n ⌝ }
+{
+    if n < MOST { n + 1 } else { n }
+}
+
+// The tally with one sheet more.
+pub fn counted(tally: Tally, outcome: Outcome) -> Tally
+    ensures { λ r. ⌜ r ≡ told.counted tally outcome ⌝ }
+{
+    let same = tally.same;
+    let different = tally.different;
+    match outcome {
+        Outcome::Same => Tally {
+            same: next(same),
+            different: different,
+            more: true,
+        },
+        Outcome::Different => Tally {
+            same: same,
+            different: next(different),
+            more: true,
+        },
+        Outcome::End => Tally {
+            same: same,
+            different: different,
+            more: false,
+        },
+    }
+}
+
+// Writes how many sheets were the same, and how many differ.
+pub fn say(tally: Tally) {
+    io::print_decimal(libc::STDOUT_FILENO, tally.same);
+    io::write_all(libc::STDOUT_FILENO, b" sheets the same, ");
+    io::print_decimal(libc::STDOUT_FILENO, tally.different);
+    io::write_all(libc::STDOUT_FILENO, b" different\n");
+}
 
 // What is stored of a sheet: its old answer, its house answer, its old and its house entry states; or `X number line` where it is
 // refused and `ok` where it is read.
@@ -126,8 +183,8 @@ pub fn run(list: List) {
             &mut words,
             &mut queue,
         );
-        tally = tally::counted(tally, outcome);
+        tally = counted(tally, outcome);
         turns -= 1;
     }
-    tally::say(tally);
+    say(tally);
 }

@@ -1,9 +1,9 @@
 -- `next` meets its contract: the test decides.
 use borrow.Author.Tests.{lt-ltb, le-ltb}
-use Rattle.tally.specs.Counted.{next}
+use Rattle.stored.specs.Counted.{next}
 use borrow.Author.Needs.{needs}
-use Rattle.tally.proofs.next.Statement.{statement}
-use Rattle.tally.proofs.next.Tie as tie
+use Rattle.stored.proofs.next.Statement.{statement}
+use Rattle.stored.proofs.next.Tie as tie
 
 add-result : tie.Need-add-result
 add-result c = search needs

@@ -1,8 +1,8 @@
 -- `counted` meets its contract: one answer for each outcome.
-use Rattle.tally.specs.Counted.{counted}
+use Rattle.stored.specs.Counted.{counted}
 use borrow.Author.Needs.{needs}
-use Rattle.tally.proofs.counted.Statement.{statement}
-use Rattle.tally.proofs.counted.Tie as tie
+use Rattle.stored.proofs.counted.Statement.{statement}
+use Rattle.stored.proofs.counted.Tie as tie
 
 enum-told : tie.Need-enum-told
 enum-told c = search needs

@@ -2,9 +2,9 @@
 use mathlib.Core.Bool.{true, false, cond}
 use Prim.Native.Nat.{ℕ, _+_}
 use lib.Dec.{ltb}
-use Rattle.tally.specs.declared.Outcome.{Outcome}
-use Rattle.tally.specs.declared.Outcome.the-variants.{Same, Different, End}
-use Rattle.tally.specs.declared.Tally.{Tally}
+use Rattle.stored.specs.declared.Outcome.{Outcome}
+use Rattle.stored.specs.declared.Outcome.the-variants.{Same, Different, End}
+use Rattle.stored.specs.declared.Tally.{Tally}
 
 -- the most that is counted
 abbrev pub most : ℕ
