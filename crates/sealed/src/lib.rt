@@ -54,7 +54,8 @@ pub fn sealed_text(
 ) -> usize
     ensures { λ r. ⌜ Stated sealed-size (paper-answer.written (paper-seal.sealed-said (paper-answer.answer rule (now (sheet .entry))))) (lent (now (report .entry)) (now (words .entry)) (now (queue .entry))) (lent (now (report .exit)) (now (words .exit)) (now (queue .exit))) r ⌝ }
 {
-    if checker::too_short(SEALED_SIZE, report, words, queue) {
+    let short = checker::too_short(SEALED_SIZE, report, words, queue);
+    if short {
         return 0;
     }
     let said = check_sealed(rule, sheet, report, words, queue);
