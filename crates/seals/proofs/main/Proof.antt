@@ -1,47 +1,41 @@
+-- `seals::main` is safe: the buffer keeps its length from text to text.
+use mathlib.Core.Path.{_≡_}
+use Prim.Native.Nat.{ℕ}
+use lib.ListN.{length, length-replicate}
 use borrow.Author.Needs.{needs}
 use Rattle.seals.proofs.main.Statement.{statement}
 use Rattle.seals.proofs.main.Tie as tie
-use Rattle.seals.proofs.main.Reads as reads
-use Rattle.seals.proofs.main.Lts as lts
 use Rattle.seals.proofs.one.Reads as one-reads
 
 abbrev Inv-loop : tie.InvT-loop
-Inv-loop text₀ turns₀ text turns = ?
+Inv-loop text₀ turns₀ text turns = length text ≡ 99999
 
 abbrev μ-loop : tie.MeasureT-loop
-μ-loop text₀ turns₀ text turns = ?
+μ-loop text₀ turns₀ text turns = turns
 
--- src/main.rt:38:5
 loop-holds : tie.Need-loop-holds Inv-loop μ-loop
-loop-holds c = ?
+loop-holds c = length-replicate {A = ℕ} 99999 0
 
--- src/main.rt:38:28
 slice-aggregate-one : tie.Need-slice-aggregate-one Inv-loop μ-loop
 slice-aggregate-one c = search needs
 
--- src/main.rt:38:24
 one-requires : tie.Need-one-requires Inv-loop μ-loop
 one-requires c κs = search needs
 
--- src/main.rt:39:9
 sub-turns : tie.Need-sub-turns Inv-loop μ-loop
 sub-turns c = search needs
 
--- src/main.rt:38:5
 loop-less : tie.Need-loop-less Inv-loop μ-loop
 loop-less c = search needs
 
--- src/main.rt:38:5
 loop-again : tie.Need-loop-again Inv-loop μ-loop
-loop-again c = ?
+loop-again c = search needs
 
--- src/main.rt:35:1
 returns : tie.Need-returns Inv-loop μ-loop
-returns c = ?
+returns c = search needs
 
--- src/main.rt:35:1
 returns-2 : tie.Need-returns-2 Inv-loop μ-loop
-returns-2 c = ?
+returns-2 c = search needs
 
 pub main-spec : {M : Type 1} → statement M
 main-spec =
