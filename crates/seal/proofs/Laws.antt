@@ -1,5 +1,5 @@
 -- What the code's needs ask: the table's entry is the byte's, and a text one byte more at a time.
-use mathlib.Core.Path.{_≡_, refl, sym, ap, _∙_}
+use mathlib.Core.Path.{_≡_, sym, ap, _∙_}
 use mathlib.Core.List.{List, [], _∷_}
 use Prim.Native.Nat.{ℕ, zero, suc, _+_, _/_, _%_, _≤_, _<_}
 use native.Mathlib.Nat.{zero-add, div-one}

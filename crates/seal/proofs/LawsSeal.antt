@@ -1,25 +1,20 @@
 -- The reader's answer, by the tests of the code; and the seal's line written behind a text.
-use mathlib.Core.Path.{_≡_, refl, sym, ap, _∙_}
-use mathlib.Core.Bool.{Bool, true, false, cond, _&&_}
-use mathlib.Core.List.{List, [], _∷_}
-use Prim.Native.Nat.{ℕ, _+_, _-_, _≤_, _<_}
+use mathlib.Core.Path.{_≡_, sym, ap, _∙_}
+use mathlib.Core.Bool.{Bool, true, false, cond}
+use mathlib.Core.List.{List}
+use Prim.Native.Nat.{ℕ, _-_, _≤_, _<_}
 use native.Mathlib.Omega.{arith}
 use borrow.Author.Tests.{le-leb, lt-leb}
-use lib.Dec.{leb}
 use lib.ListN.{length, take, drop, length-drop}
 use lib.Seq.{take-all}
 use Rattle.lists.specs.Sets.{Wrote}
 use Rattle.paper.specs.Text.{Bytes}
 use Rattle.paper.specs.Comparison.{same-text}
 use Rattle.paper.specs.Limits.{seal-size}
-use Rattle.paper.specs.Seal.{crc-of, hex-digits, seal-line, seal-shaped, closed, before-seal, last-line, has-seal, seal-of}
+use Rattle.paper.specs.Seal.{crc-of, seal-line, seal-shaped, closed, before-seal, last-line, has-seal, seal-of}
 use Rattle.paper.specs.declared.Seal.{Seal}
 use Rattle.paper.specs.declared.Seal.the-variants.{Good, Wrong, None}
 use Rattle.seal.specs.Exported.{code-of}
-
-pub line-length : (word : ℕ) → length (seal-line word) ≡ seal-size
-unfolding seal-line hex-digits
-line-length word = refl
 
 module _ (text : Bytes) where
   -- the bytes before the last eleven, and these, as the code lends them

@@ -1,11 +1,11 @@
 -- A text written byte by byte, two texts compared byte by byte, and the shape of a seal's line.
 use mathlib.Core.Path.{_≡_, refl, sym, ap, _∙_}
-use mathlib.Core.Bool.{Bool, true, false, _&&_, _||_}
+use mathlib.Core.Bool.{Bool, true, false, _&&_}
 use mathlib.Core.List.{List, [], _∷_}
-use Prim.Native.Nat.{ℕ, zero, suc, _+_, _-_, _≤_, _<_}
+use Prim.Native.Nat.{ℕ, suc, _+_, _-_, _≤_, _<_}
 use native.Mathlib.Numerals.{add-one}
 use native.Mathlib.Omega.{arith}
-use borrow.Author.Tests.{eq-eqb, ne-eqb, lt-leb}
+use borrow.Author.Tests.{eq-eqb, ne-eqb}
 use lib.Dec.{eqb, leb}
 use lib.ListN.{length, getD, set, take, drop, length-set, drop-of-length-le}
 use lib.Seq.{drop-cons, take-suc, take-length}
@@ -28,7 +28,11 @@ module _ {l l′ : List ℕ} {at i : ℕ} {text : Bytes} (w : Writing l at text 
   pub writing-more : i < length text → Writing l at text (i + 1) (set l′ (at + i) (getD text i 0))
   writing-more h =
       let one : Wrote l′ (at + i) (getD text i 0 ∷ []) (set l′ (at + i) (getD text i 0)) (at + suc i) = record { list = refl; next = omega arith } in
-      record { inside = omega arith; same-length = length-set l′ (at + i) (getD text i 0) ∙ w .same-length; wrote = rw (add-one i, take-suc text i 0 h) (then (w .wrote) one) }
+      record {
+        inside = omega arith;
+        same-length = length-set l′ (at + i) (getD text i 0) ∙ w .same-length;
+        wrote = rw (add-one i, take-suc text i 0 h) (then (w .wrote) one);
+      }
 
   pub writing-all : length text ≤ i → Wrote l at text l′ (at + i)
   writing-all h =

@@ -200,8 +200,10 @@ burst {s} {t} b e =
     let registers : feed all-ones s ≡ feed all-ones t = xor-cancel (feed all-ones s) (feed all-ones t) all-ones e in
     let ends : feed-all (feed-all start (b .here)) (b .after) ≡ feed-all (feed-all start (b .there)) (b .after) =
     sym (through s (b .here) (b .first-is)) ∙ registers ∙ through t (b .there) (b .second-is) in
-    run-same (b .here) (b .there) start word (b .same-length) (b .short)
-    (feed-all-same (b .after) (feed-all start (b .here)) (feed-all start (b .there)) (feed-all-below (b .here) start word) (feed-all-below (b .there) start word) ends)
+    let one = feed-all-below (b .here) start word in
+    let other = feed-all-below (b .there) start word in
+    let here-same = feed-all-same (b .after) (feed-all start (b .here)) (feed-all start (b .there)) one other ends in
+    run-same (b .here) (b .there) start word (b .same-length) (b .short) here-same
   where
     through : (text : Bytes) (run : List Bool) → bits-of text ≡ b .before ++ (run ++ b .after)
         → feed all-ones text ≡ feed-all (feed-all (feed-all all-ones (b .before)) run) (b .after)

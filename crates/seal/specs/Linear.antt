@@ -1,11 +1,11 @@
 -- The register's move is linear over exclusive or: so bits of the text can be put in at once, eight moves are those of the low byte beside the
 -- rest shifted, and a register of 32 bits that moves to 0 was 0.
 use mathlib.Core.Path.{_≡_, refl, sym, ap, ap₂, _∙_}
-use Prim.Native.Nat.{ℕ, zero, suc, _+_, _*_, _/_, _%_, _^_, _<_}
+use Prim.Native.Nat.{ℕ, zero, suc, _*_, _/_, _%_, _^_, _<_}
 use native.Mathlib.Nat.{mul-one, div-add-mod', pow-suc}
 use native.Mathlib.Omega.{arith}
-use lib.Bits.{bitXor, differ, xor-shr, xor-comm, xor-zero-r, xor-lt, xor-shifted, shifted-half, shifted-even}
-use Rattle.lists.specs.Xor.{of-bit, bit-below, xor-half, xor-lowest, xor-swap, xor-interchange, xor-zero}
+use lib.Bits.{bitXor, differ, xor-shr, xor-comm, xor-zero-r, xor-shifted, shifted-half, shifted-even}
+use Rattle.lists.specs.Xor.{of-bit, bit-below, xor-half, xor-lowest, xor-swap, xor-interchange}
 use Rattle.paper.specs.Seal.{polynomial, feed-bit, feed-bits}
 use Rattle.seal.specs.Table.{shift, shifts}
 
@@ -56,8 +56,10 @@ at-once (suc n) register b h =
 -- the table's way, for a byte
 pub by-byte : (register b : ℕ) → b < 256 → feed-bits 8 register b ≡ bitXor (shifts 8 (bitXor register b % 256)) (register / 256)
 by-byte register b h =
-    at-once 8 register b h ∙ shifts-byte (bitXor register b)
-    ∙ ap (λ (k : ℕ). bitXor (shifts 8 (bitXor register b % 256)) k) (xor-shr register b 8 ∙ ap (λ (k : ℕ). bitXor (register / 256) k) none-high ∙ xor-zero-r (register / 256))
+    at-once 8 register b h ∙ shifts-byte (bitXor register b) ∙ ap (λ (k : ℕ). bitXor (shifts 8 (bitXor register b % 256)) k) rest
   where
     none-high : b / 256 ≡ 0
     none-high = omega arith
+
+    rest : bitXor register b / 256 ≡ register / 256
+    rest = xor-shr register b 8 ∙ ap (λ (k : ℕ). bitXor (register / 256) k) none-high ∙ xor-zero-r (register / 256)

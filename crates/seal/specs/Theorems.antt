@@ -43,7 +43,13 @@ unfolding is-hex is-digit hex-digit
 digit-hex n h =
     by-order n 10
     (λ low. rw (lt-ltb n 10 low, le-leb 48 (48 + n) (omega arith), le-leb (48 + n) 57 (omega arith)))
-    (λ high. rw (le-ltb n 10 high, le-leb 48 (87 + n) (omega arith), lt-leb (87 + n) 57 (omega arith), le-leb 97 (87 + n) (omega arith), le-leb (87 + n) 102 (omega arith)))
+    (λ high. rw (
+      le-ltb n 10 high,
+      le-leb 48 (87 + n) (omega arith),
+      lt-leb (87 + n) 57 (omega arith),
+      le-leb 97 (87 + n) (omega arith),
+      le-leb (87 + n) 102 (omega arith),
+    ))
 
 digits-hex : (k n : ℕ) → all-hex (hex-digits k n) ≡ true
 unfolding all-hex hex-digits
@@ -59,7 +65,7 @@ line-shaped : (word : ℕ) → seal-shaped (seal-line word) ≡ true
 unfolding seal-shaped seal-line hex-digits
 line-shaped word = rw (digits-hex 8 word)
 
-line-length : (word : ℕ) → length (seal-line word) ≡ seal-size
+pub line-length : (word : ℕ) → length (seal-line word) ≡ seal-size
 unfolding seal-line hex-digits
 line-length word = refl
 
@@ -79,7 +85,8 @@ module _ (text : Bytes) (word : ℕ) where
   has-line : closed text ≡ true → has-seal (text ++ seal-line word) ≡ true
   unfolding has-seal
   has-line k =
-      rw (le-leb seal-size (length (text ++ seal-line word)) (omega (arith, length-append text (seal-line word), line-length word)), line-is, before-is, line-shaped word, k)
+      let long = le-leb seal-size (length (text ++ seal-line word)) (omega (arith, length-append text (seal-line word), line-length word)) in
+      rw (long, line-is, before-is, line-shaped word, k)
 
 -- "the report as it is, then" its line: what is sealed is good
 pub sealed-good : (text : Bytes) → closed text ≡ true → seal-of (sealed text) ≡ Good
@@ -150,9 +157,10 @@ unfolding seal-line
 line-same a b ha hb e =
     let high : a / 16 ^ 8 ≡ b / 16 ^ 8 = omega arith in
     let text : hex-digits 8 a ++ (line-feed ∷ []) ≡ hex-digits 8 b ++ (line-feed ∷ []) = ap (drop 2) e in
-    let digits : hex-digits 8 a ≡ hex-digits 8 b =
-    sym (take-at (hex-digits 8 a) (line-feed ∷ []) 8 (digits-length 8 a)) ∙ ap (take 8) text ∙ take-at (hex-digits 8 b) (line-feed ∷ []) 8 (digits-length 8 b) in
-    digits-same 8 a b high digits
+    digits-same 8 a b high (sym (front a) ∙ ap (take 8) text ∙ front b)
+  where
+    front : (n : ℕ) → take 8 (hex-digits 8 n ++ (line-feed ∷ [])) ≡ hex-digits 8 n
+    front n = take-at (hex-digits 8 n) (line-feed ∷ []) 8 (digits-length 8 n)
 
 -- a text that is good under a line has the line's word
 pub good-word : (text : Bytes) (word : ℕ) → word < 2 ^ 32 → seal-of (text ++ seal-line word) ≡ Good → crc-of text ≡ word
@@ -212,7 +220,9 @@ ends-closed : {text : Bytes} → Ends text → closed text ≡ true
 unfolding closed
 ends-closed {text} e =
     let last : length text - 1 ≡ length (e .front) = omega (arith, ap length (e .whole), length-append (e .front) (line-feed ∷ [])) in
-    let byte : getD text (length text - 1) 0 ≡ line-feed = rw last (ap (λ (t : Bytes). getD t (length (e .front)) 0) (e .whole) ∙ getD-append-seam (e .front) line-feed [] 0) in
+    let there : getD text (length (e .front)) 0 ≡ line-feed =
+    ap (λ (t : Bytes). getD t (length (e .front)) 0) (e .whole) ∙ getD-append-seam (e .front) line-feed [] 0 in
+    let byte : getD text (length text - 1) 0 ≡ line-feed = rw last there in
     rw byte (or-true (empty text))
 
 pub report-closed : (rule : Rule) (ls : List Line) → closed (report-text rule ls) ≡ true

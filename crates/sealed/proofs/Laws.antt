@@ -1,6 +1,6 @@
 -- From what `check` promises, and the line that is written behind its report, to the paper's sealed outcome.
 use mathlib.Core.Path.{_≡_, refl, sym, ap, ap₂, _∙_, subst}
-use mathlib.Core.Bool.{Bool, true, false}
+use mathlib.Core.Bool.{true, false}
 use mathlib.Core.List.{List, _++_}
 use Prim.Native.Nat.{ℕ, _+_, _≤_}
 use native.Mathlib.Omega.{arith}
@@ -9,9 +9,9 @@ use lib.ListN.{length, take, drop, replicate, length-append, length-drop, length
 use lib.Seq.{take-at, sets, sets-eq, drop-append-add, drop-drop}
 use Rattle.lists.specs.Sets.{Wrote, length-wrote}
 use Rattle.paper.specs.Text.{Bytes}
-use Rattle.paper.specs.Limits.{report-size, words-size, queue-size, seal-size, sealed-size}
+use Rattle.paper.specs.Limits.{report-size, queue-size, seal-size, sealed-size}
 use Rattle.paper.specs.Answer.{Said, accepted, faulty, turned-away, answer, written, Lent, too-short, laid, zeros, answer-of, report-of, Outcome, outcome-of, outcome}
-use Rattle.paper.specs.Seal.{crc-of, hex-digits, seal-line, sealed, sealed-said, sealed-outcome}
+use Rattle.paper.specs.Seal.{crc-of, seal-line, sealed, sealed-said, sealed-outcome}
 use Rattle.paper.specs.declared.Rule.{Rule}
 use Rattle.paper.specs.declared.Refusal.{Refusal}
 use Rattle.paper.specs.declared.Answer.{Answer}
@@ -19,11 +19,8 @@ use Rattle.paper.specs.declared.Answer.the-variants.{Accepted, Faulty, Refused}
 use Rattle.checker.specs.Checked.{lent, Checked, TextOutcome, text-outcome, Stated, verdict-of, rule-of}
 use Rattle.checker.specs.Lengths.{long, by-queue}
 use Rattle.checker.specs.declared.Verdict.{Verdict}
+use Rattle.seal.specs.Theorems.{line-length}
 use Rattle.sealed.specs.Sealed.{AnswerInside, CheckedSealed, ExportedSealed}
-
-line-length : (word : ℕ) → length (seal-line word) ≡ seal-size
-unfolding seal-line hex-digits
-line-length word = refl
 
 -- the line behind a text that was laid, and the sealed text laid at once
 module _ (text report : Bytes) (room : length text + seal-size ≤ length report) where
@@ -51,7 +48,8 @@ module _ (text report : Bytes) (room : length text + seal-size ≤ length report
       let whole = sets-eq line (laid text report) (length text) (omega (arith, laid-length)) in
       let ends : length text + length line ≡ length (text ++ line) = sym (length-append text line) in
       let rest : drop (length text + length line) (laid text report) ≡ drop (length (text ++ line)) report =
-      ap (λ (n : ℕ). drop (length text + n) (laid text report)) eleven ∙ behind ∙ ap (λ (n : ℕ). drop n report) (ap (λ (n : ℕ). length text + n) (sym eleven) ∙ ends) in (
+      ap (λ (n : ℕ). drop (length text + n) (laid text report)) eleven ∙ behind
+      ∙ ap (λ (n : ℕ). drop n report) (ap (λ (n : ℕ). length text + n) (sym eleven) ∙ ends) in (
         w .list ∙ ap (λ (l : Bytes). sets (laid text report) (length text) l) one ∙ whole
             ∙ ap₂ (λ (a b : Bytes). a ++ line ++ b) laid-text rest,
         w .next ∙ ap (λ (l : Bytes). length text + length l) one ∙ ends,
@@ -78,7 +76,8 @@ module _ {rule : Rule} {sheet : Bytes} {report words queue : List ℕ} {after : 
   unfolding outcome
   said-whole said e = c .whole ∙ rw (long-plain report words queue room, e)
 
-  sealed-is : (said : Said) → answer rule sheet ≡ said → sealed-outcome rule sheet (lent report words queue) ≡ outcome-of (sealed-said said) (lent report words queue)
+  sealed-is : (said : Said) → answer rule sheet ≡ said
+      → sealed-outcome rule sheet (lent report words queue) ≡ outcome-of (sealed-said said) (lent report words queue)
   unfolding sealed-outcome
   sealed-is said e = rw (room, e)
 
@@ -147,8 +146,7 @@ module _ {rule : Rule} {sheet : Bytes} {report words queue : List ℕ} {after : 
       line-behind : (report′ ≡ laid (sealed (t .text)) report) × (r ≡ length (sealed (t .text)))
       line-behind =
           let w₁ : Wrote (laid (t .text) report) n (seal-line (crc-of (take n (laid (t .text) report)))) report′ r = rw (t .report-is) at w in
-          let w₂ : Wrote (laid (t .text) report) (length (t .text)) (seal-line (crc-of (take (length (t .text)) (laid (t .text) report)))) report′ r = rw (t .length-is) at w₁ in
-          laid-sealed (t .text) report (t .has-room) w₂
+          laid-sealed (t .text) report (t .has-room) (rw (t .length-is) at w₁)
 
       pub ends-inside : r ≤ length report′
       ends-inside = omega (arith, w .next, line-length (crc-of (take n (after .report))), length-wrote w, room-for-line)
@@ -182,8 +180,8 @@ module _ {rule : Rule} {sheet : Bytes} {report words queue : List ℕ} {after : 
       }
 
 -- the same over the C interface
-pub exported : {number : ℕ} {rule : Rule} {sheet : Bytes} {before after : Lent} {a : Answer} {r : Verdict} → CheckedSealed rule sheet before after a → rule ≡ rule-of number
-    → r ≡ verdict-of a → ExportedSealed number sheet before after r
+pub exported : {number : ℕ} {rule : Rule} {sheet : Bytes} {before after : Lent} {a : Answer} {r : Verdict}
+    → CheckedSealed rule sheet before after a → rule ≡ rule-of number → r ≡ verdict-of a → ExportedSealed number sheet before after r
 exported {sheet} {before} c e v =
     let w = c .whole ∙ ap (λ (rule : Rule). sealed-outcome rule sheet before) e in
     record { verdict-is = v ∙ ap (λ (o : Outcome). verdict-of (o .answer)) w; lent-is = ap (λ (o : Outcome). o .lent) w }
@@ -254,7 +252,8 @@ module _ {rule : Rule} {sheet : Bytes} {report words queue : List ℕ} {after : 
   unfolding text-outcome cleared
   plain-text text {last} {n} p =
       let o = p .whole in
-      let w : _≡_ {A = TextOutcome} (record { text-length = n; buffers = last }) (record { text-length = length text; buffers = lent (laid text report) (zeros words) (zeros queue) }) =
+      let left : TextOutcome = record { text-length = length text; buffers = lent (laid text report) (zeros words) (zeros queue) } in
+      let w : _≡_ {A = TextOutcome} (record { text-length = n; buffers = last }) left =
       o ∙ rw (still-long, zeros-twice words, zeros-twice queue) in
       record { whole = w ∙ rw room; fits = p .fits }
 

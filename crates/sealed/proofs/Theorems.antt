@@ -42,7 +42,8 @@ text-of (accepted text) = text
 text-of (faulty text) = text
 text-of (turned-away refusal) = []
 
-said-report : (rule : Rule) (sheet : Bytes) (said : Said) → answer rule sheet ≡ said → ((refusal : Refusal) → said ≡ turned-away refusal → ⊥) → IsReport rule (text-of said)
+said-report : (rule : Rule) (sheet : Bytes) (said : Said) → answer rule sheet ≡ said → ((refusal : Refusal) → said ≡ turned-away refusal → ⊥)
+    → IsReport rule (text-of said)
 unfolding answer said-after said-of text-of
 said-report rule sheet said e given = at (read sheet) e
   where
@@ -67,7 +68,8 @@ apart-faulty : {Q : Type 0} {text : Bytes} {refusal : Refusal} → faulty text �
 apart-faulty e = let z : _≡_ {A = ℕ} 0 1 = cc in absurd (omega arith)
 
 module _ {rule : Rule} {sheet : Bytes} {before after : Lent} where
-  accepted-told : {n : ℕ} → CheckedSealed rule sheet before after (Accepted n) → (Told rule before n (after .report)) × ((text : Bytes) × (answer rule sheet ≡ accepted text))
+  accepted-told : {n : ℕ} → CheckedSealed rule sheet before after (Accepted n)
+      → (Told rule before n (after .report)) × ((text : Bytes) × (answer rule sheet ≡ accepted text))
   unfolding sealed-outcome outcome-of answer-of report-of sealed-said text-of
   accepted-told {n} c = at (too-short sealed-size before) refl (answer rule sheet) refl
     where
@@ -131,14 +133,17 @@ told-good : {rule : Rule} {before : Lent} {n : ℕ} {report : List ℕ} → Told
 unfolding laid
 told-good {rule} {before} {n} {report} t =
     let text = sealed (report-text rule (t .lines)) in
+    let whole : take (length text) (laid text (before .report)) ≡ text = take-at text (drop (length text) (before .report)) (length text) refl in
     let e : take n report ≡ text =
-    ap (λ (l : List ℕ). take n l) (t .report-is) ∙ ap (λ (k : ℕ). take k (laid text (before .report))) (t .length-is) ∙ take-at text (drop (length text) (before .report)) (length text) refl in
+    ap (λ (l : List ℕ). take n l) (t .report-is) ∙ ap (λ (k : ℕ). take k (laid text (before .report))) (t .length-is) ∙ whole in
     ap seal-of e ∙ report-good rule (t .lines)
 
-pub accepted-good : {rule : Rule} {sheet : Bytes} {before after : Lent} {n : ℕ} → CheckedSealed rule sheet before after (Accepted n) → seal-of (take n (after .report)) ≡ Good
+pub accepted-good : {rule : Rule} {sheet : Bytes} {before after : Lent} {n : ℕ} → CheckedSealed rule sheet before after (Accepted n)
+    → seal-of (take n (after .report)) ≡ Good
 accepted-good c = told-good (accepted-told c .0)
 
-pub faulty-good : {rule : Rule} {sheet : Bytes} {before after : Lent} {n : ℕ} → CheckedSealed rule sheet before after (Faulty n) → seal-of (take n (after .report)) ≡ Good
+pub faulty-good : {rule : Rule} {sheet : Bytes} {before after : Lent} {n : ℕ} → CheckedSealed rule sheet before after (Faulty n)
+    → seal-of (take n (after .report)) ≡ Good
 faulty-good c = told-good (faulty-told c)
 
 -- demand 3 for the sealed call: accepted under the house rule exactly when the sheet is read and the acceptance sentence holds of it
@@ -148,7 +153,9 @@ sealed-accepted {sheet} c = let t = accepted-told c .1 in accepted-bytes sheet (
 pub sealed-exactly : {sheet : Bytes} {before after : Lent} {r : Answer} → CheckedSealed House sheet before after r → too-short sealed-size before ≡ false
     → ((n : ℕ) × (r ≡ Accepted n)) ↔ Acceptable sheet
 unfolding sealed-outcome outcome-of answer-of sealed-said
-sealed-exactly {sheet} {before} {after} {r} c long = (
-  λ p. acceptable (sealed-accepted (subst (CheckedSealed House sheet before after) (p .1) c)),
-  λ a. (length (sealed (report-text House [])), ap (λ (o : Outcome). o .answer) (c .whole) ∙ rw (long, bytes-acceptance sheet (a .sheet) (a .is-read) .1 (a .sentence))),
-)
+sealed-exactly {sheet} {before} {after} {r} c long =
+    let size = length (sealed (report-text House [])) in
+    let said = ap (λ (o : Outcome). o .answer) (c .whole) in (
+      λ p. acceptable (sealed-accepted (subst (CheckedSealed House sheet before after) (p .1) c)),
+      λ a. (size, said ∙ rw (long, bytes-acceptance sheet (a .sheet) (a .is-read) .1 (a .sentence))),
+    )

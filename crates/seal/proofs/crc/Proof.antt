@@ -10,7 +10,6 @@ use Rattle.seal.proofs.Laws.{feed-more, feed-end}
 use borrow.Author.Needs.{needs}
 use Rattle.seal.proofs.crc.Statement.{statement}
 use Rattle.seal.proofs.crc.Tie as tie
-use Rattle.seal.proofs.next.Reads as next-reads
 
 abbrev Inv-loop : tie.InvT-loop
 Inv-loop text words register₀ i₀ register i = (i ≤ length text) × (feed register (drop i text) ≡ feed all-ones text)

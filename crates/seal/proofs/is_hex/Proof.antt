@@ -1,7 +1,6 @@
 -- `seal::is_hex` meets its contract.
 use Rattle.paper.specs.Text.{is-digit}
 use Rattle.seal.proofs.LawsText.{hex-digits-below, hex-letters}
-use borrow.Author.Needs.{needs}
 use Rattle.seal.proofs.is_hex.Statement.{statement}
 use Rattle.seal.proofs.is_hex.Tie as tie
 

@@ -4,7 +4,6 @@ use Rattle.seal.proofs.LawsSeal.{told-as}
 use borrow.Author.Needs.{needs}
 use Rattle.seal.proofs.itanropen_verify.Statement.{statement}
 use Rattle.seal.proofs.itanropen_verify.Tie as tie
-use Rattle.seal.proofs.verify.Reads as verify-reads
 
 verify-requires : tie.Need-verify-requires
 verify-requires c κs = search needs

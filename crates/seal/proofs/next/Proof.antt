@@ -3,7 +3,6 @@ use Prim.Native.Nat.{_<_}
 use native.Mathlib.Omega.{arith}
 use lib.Bits.{bitXor, bitAnd, mask-lt}
 use Rattle.seal.proofs.Laws.{looked-up}
-use borrow.Author.Needs.{needs}
 use Rattle.seal.proofs.next.Statement.{statement}
 use Rattle.seal.proofs.next.Tie as tie
 

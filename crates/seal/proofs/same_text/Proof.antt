@@ -40,7 +40,8 @@ loop-again : tie.Need-loop-again Inv-loop μ-loop
 loop-again c =
     let l = c .before .before .before .before in
     let s = l .before in
-    (omega arith, same-more (s .args .a .now) (s .args .b .now) (l .loop .i) (c .before .before .before .loop-test .taken) (omega arith) (c .if1 .left) ∙ l .loop .inv .1)
+    let more = same-more (s .args .a .now) (s .args .b .now) (l .loop .i) (c .before .before .before .loop-test .taken) (omega arith) (c .if1 .left) in
+    (omega arith, more ∙ l .loop .inv .1)
 
 returns-2 : tie.Need-returns-2 Inv-loop μ-loop
 returns-2 c =

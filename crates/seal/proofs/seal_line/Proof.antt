@@ -3,7 +3,6 @@ use Rattle.seal.proofs.Laws.{line-spelled}
 use borrow.Author.Needs.{needs}
 use Rattle.seal.proofs.seal_line.Statement.{statement}
 use Rattle.seal.proofs.seal_line.Tie as tie
-use Rattle.seal.proofs.hex_digit.Reads as hex-digit-reads
 
 hex-digit-requires : tie.Need-hex-digit-requires
 hex-digit-requires c κs = search needs

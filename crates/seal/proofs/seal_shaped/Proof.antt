@@ -1,7 +1,7 @@
 -- `seal::seal_shaped` meets its contract: what is left of the digits decides, behind `K` and the tab.
 use mathlib.Core.Path.{_≡_, refl, sym, ap, _∙_}
 use mathlib.Core.Bool.{Bool, true, false, _&&_}
-use Prim.Native.Nat.{ℕ, _-_, _≤_}
+use Prim.Native.Nat.{_-_, _≤_}
 use native.Mathlib.Omega.{arith}
 use borrow.Author.Tests.{not-true, not-false}
 use lib.Dec.{eqb}
@@ -12,7 +12,6 @@ use Rattle.seal.proofs.LawsText.{left, no-letter, no-tab, by-rest, left
 use borrow.Author.Needs.{needs}
 use Rattle.seal.proofs.seal_shaped.Statement.{statement}
 use Rattle.seal.proofs.seal_shaped.Tie as tie
-use Rattle.seal.proofs.is_hex.Reads as is-hex-reads
 
 abbrev Inv-loop : tie.InvT-loop
 Inv-loop bytes i₀ i = (2 ≤ i) × (i ≤ 10) × (left i bytes ≡ left 2 bytes)
@@ -53,7 +52,8 @@ returns-3 c =
     let h = c .before in
     let l = h .before .before .before in
     let bytes = bytes-of (l .before) in
-    let e : left 2 bytes ≡ false = sym (l .loop .inv .2) ∙ sym (left-not bytes (l .loop .i) (omega arith) (omega arith) (sym (h .is-hex .ensures) ∙ not-true _ (c .if3 .taken))) in
+    let other = left-not bytes (l .loop .i) (omega arith) (omega arith) (sym (h .is-hex .ensures) ∙ not-true _ (c .if3 .taken)) in
+    let e : left 2 bytes ≡ false = sym (l .loop .inv .2) ∙ sym other in
     sym (shaped-by (l .before) ∙ ap (λ (t : Bool). t && eqb (getD bytes 10 0) line-feed) e)
 
 add-i : tie.Need-add-i Inv-loop μ-loop
@@ -66,7 +66,8 @@ loop-again : tie.Need-loop-again Inv-loop μ-loop
 loop-again c =
     let h = c .before in
     let l = h .before .before .before in
-    (omega arith, omega arith, left-more (bytes-of (l .before)) (l .loop .i) (omega arith) (omega arith) (sym (h .is-hex .ensures) ∙ not-false _ (c .if3 .left)) ∙ l .loop .inv .2)
+    let more = left-more (bytes-of (l .before)) (l .loop .i) (omega arith) (omega arith) (sym (h .is-hex .ensures) ∙ not-false _ (c .if3 .left)) in
+    (omega arith, omega arith, more ∙ l .loop .inv .2)
 
 shared-slice-read-result : tie.Need-shared-slice-read-result Inv-loop μ-loop
 shared-slice-read-result c = search needs

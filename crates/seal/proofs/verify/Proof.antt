@@ -9,11 +9,6 @@ use Rattle.seal.proofs.LawsSeal.{front, back, short, unshaped, unclosed
 use borrow.Author.Needs.{needs}
 use Rattle.seal.proofs.verify.Statement.{statement}
 use Rattle.seal.proofs.verify.Tie as tie
-use Rattle.seal.proofs.closed.Reads as closed-reads
-use Rattle.seal.proofs.crc.Reads as crc-reads
-use Rattle.seal.proofs.same_text.Reads as same-text-reads
-use Rattle.seal.proofs.seal_line.Reads as seal-line-reads
-use Rattle.seal.proofs.seal_shaped.Reads as seal-shaped-reads
 
 -- the tests that were passed
 shaped : (c : tie.Else2) → seal-shaped (back (c .before .before .before .before .before .args .text .now)) ≡ true
@@ -50,7 +45,9 @@ closed-requires : tie.Need-closed-requires
 closed-requires c κs = search needs
 
 returns-3 : tie.Need-returns-3
-returns-3 c = let e = c .before .before .before in unclosed _ (e .before .before .before .if1 .left) (shaped e) (sym (c .before .closed .ensures) ∙ not-true _ (c .if3 .taken))
+returns-3 c =
+    let e = c .before .before .before in
+    unclosed _ (e .before .before .before .if1 .left) (shaped e) (sym (c .before .closed .ensures) ∙ not-true _ (c .if3 .taken))
 
 slice-aggregate-crc : tie.Need-slice-aggregate-crc
 slice-aggregate-crc c = simp length-take (omega arith)
@@ -81,14 +78,18 @@ returns-4 c =
     let t = c .before in
     let l = t .before .before .before in
     let e = l .before .before .before in
-    told _ (e .before .before .before .before .before .before .if1 .left) (shaped (e .before .before .before)) (closes e) _ (l .seal-line .ensures ∙ ap seal-line (l .before .crc .ensures)) true (sym (t .same-text .ensures) ∙ c .if4 .taken)
+    let s = e .before .before .before in
+    let line = l .seal-line .ensures ∙ ap seal-line (l .before .crc .ensures) in
+    told _ (s .before .before .before .if1 .left) (shaped s) (closes e) _ line true (sym (t .same-text .ensures) ∙ c .if4 .taken)
 
 returns-5 : tie.Need-returns-5
 returns-5 c =
     let t = c .before in
     let l = t .before .before .before in
     let e = l .before .before .before in
-    told _ (e .before .before .before .before .before .before .if1 .left) (shaped (e .before .before .before)) (closes e) _ (l .seal-line .ensures ∙ ap seal-line (l .before .crc .ensures)) false (sym (t .same-text .ensures) ∙ c .if4 .left)
+    let s = e .before .before .before in
+    let line = l .seal-line .ensures ∙ ap seal-line (l .before .crc .ensures) in
+    told _ (s .before .before .before .if1 .left) (shaped s) (closes e) _ line false (sym (t .same-text .ensures) ∙ c .if4 .left)
 
 pub verify-spec : {M : Type 1} → statement M
 verify-spec =

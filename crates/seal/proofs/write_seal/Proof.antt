@@ -5,9 +5,6 @@ use Rattle.seal.proofs.LawsSeal.{sealed-by}
 use borrow.Author.Needs.{needs}
 use Rattle.seal.proofs.write_seal.Statement.{statement}
 use Rattle.seal.proofs.write_seal.Tie as tie
-use Rattle.seal.proofs.crc.Reads as crc-reads
-use Rattle.seal.proofs.seal_line.Reads as seal-line-reads
-use Rattle.seal.proofs.write_text.Reads as write-text-reads
 
 slice-reshare-prefix-crc : tie.Need-slice-reshare-prefix-crc
 slice-reshare-prefix-crc c = search needs
@@ -31,7 +28,10 @@ same-length : tie.Need-same-length
 same-length c = search needs
 
 returns : tie.Need-returns
-returns c = let w = c .before .before in let l = w .before .before .before in sealed-by (l .before .crc .ensures) (l .seal-line .ensures) (w .write-text .ensures)
+returns c =
+    let w = c .before .before in
+    let l = w .before .before .before in
+    sealed-by (l .before .crc .ensures) (l .seal-line .ensures) (w .write-text .ensures)
 
 pub write-seal-spec : {M : Type 1} → statement M
 write-seal-spec =

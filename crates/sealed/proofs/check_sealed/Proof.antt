@@ -8,9 +8,6 @@ use Rattle.sealed.proofs.Laws.{turned-short, accepted-text, faulty-text
 use borrow.Author.Needs.{needs}
 use Rattle.sealed.proofs.check_sealed.Statement.{statement}
 use Rattle.sealed.proofs.check_sealed.Tie as tie
-use Rattle.checker.proofs.check.Reads as check-reads
-use Rattle.checker.proofs.too_short.Reads as too-short-reads
-use Rattle.seal.proofs.write_seal.Reads as write-seal-reads
 
 -- the answer that was given, at the place where it is taken apart, and that there was room
 abbrev checked-of : tie.After-slice-known6 → tie.After-check

@@ -3,9 +3,6 @@ use Rattle.sealed.proofs.Laws.{exported}
 use borrow.Author.Needs.{needs}
 use Rattle.sealed.proofs.itanropen_check_sealed.Statement.{statement}
 use Rattle.sealed.proofs.itanropen_check_sealed.Tie as tie
-use Rattle.checker.proofs.rule_of.Reads as rule-of-reads
-use Rattle.checker.proofs.verdict_of.Reads as verdict-of-reads
-use Rattle.sealed.proofs.check_sealed.Reads as check-sealed-reads
 
 rule-of-requires : tie.Need-rule-of-requires
 rule-of-requires c κs = search needs

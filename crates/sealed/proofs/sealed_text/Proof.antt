@@ -8,9 +8,6 @@ use Rattle.sealed.proofs.Laws.{text-short, text-accepted, text-faulty, 
 use borrow.Author.Needs.{needs}
 use Rattle.sealed.proofs.sealed_text.Statement.{statement}
 use Rattle.sealed.proofs.sealed_text.Tie as tie
-use Rattle.checker.proofs.answer_text.Reads as answer-text-reads
-use Rattle.checker.proofs.too_short.Reads as too-short-reads
-use Rattle.sealed.proofs.check_sealed.Reads as check-sealed-reads
 
 -- the answer that was given, at the place where it is taken apart, and that there was room
 abbrev checked-of : tie.After-slice-known6 → tie.After-check-sealed

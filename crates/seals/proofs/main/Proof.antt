@@ -5,7 +5,6 @@ use lib.ListN.{length, length-replicate}
 use borrow.Author.Needs.{needs}
 use Rattle.seals.proofs.main.Statement.{statement}
 use Rattle.seals.proofs.main.Tie as tie
-use Rattle.seals.proofs.one.Reads as one-reads
 
 abbrev Inv-loop : tie.InvT-loop
 Inv-loop text₀ turns₀ text turns = length text ≡ 99999

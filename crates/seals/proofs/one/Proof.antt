@@ -4,10 +4,6 @@ use lib.ListN.{length-take}
 use borrow.Author.Needs.{needs}
 use Rattle.seals.proofs.one.Statement.{statement}
 use Rattle.seals.proofs.one.Tie as tie
-use Rattle.frames.proofs.read.Reads as read-reads
-use Rattle.io.proofs.write_all.Reads as write-all-reads
-use Rattle.os.proofs.fail.Reads as fail-reads
-use Rattle.seals.proofs.write_answer.Reads as write-answer-reads
 
 read-requires : tie.Need-read-requires
 read-requires c κs = search needs

@@ -4,7 +4,6 @@ use Rattle.sealed.specs.Sealed.{AnswerInside}
 use borrow.Author.Needs.{needs}
 use Rattle.stream.proofs.sealed_length.Statement.{statement}
 use Rattle.stream.proofs.sealed_length.Tie as tie
-use Rattle.sealed.proofs.check_sealed.Reads as check-sealed-reads
 
 check-sealed-requires : tie.Need-check-sealed-requires
 check-sealed-requires c κs = search needs

@@ -4,8 +4,6 @@ use lib.ListN.{length-take}
 use borrow.Author.Needs.{needs}
 use Rattle.stream.proofs.write_sealed.Statement.{statement}
 use Rattle.stream.proofs.write_sealed.Tie as tie
-use Rattle.frames.proofs.write.Reads as write-reads
-use Rattle.stream.proofs.sealed_length.Reads as sealed-length-reads
 
 sealed-length-requires : tie.Need-sealed-length-requires
 sealed-length-requires c κs = search needs
