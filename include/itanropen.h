@@ -4,7 +4,7 @@
  * programs over it. Link with target/staticlib/libchecker.a, which `rt staticlib checker` proves and builds, for x86-64 Linux, from
  * the same sources as this file. The library allocates nothing, keeps nothing between calls, and calls nothing but memcpy and memset.
  *
- * 1 sizes, 2 rules and answers, 3 the verdict, 4 the buffers, 5 the functions, 6 two reports compared. What is said of a function under
+ * 1 sizes, 2 rules and answers, 3 the verdict, 4 the buffers, 5 the functions, 6 two reports compared, 7 sealed reports. What is said of a function under
  * "Promise" is proved (docs/PROMISES.md) for every call that keeps what is said under "The caller".
  */
 #ifndef ITANROPEN_H
@@ -139,6 +139,45 @@ typedef char itanropen_judgement_has_24_bytes[sizeof(itanropen_judgement) == 24 
  * meanwhile; no pointer is null. The two may overlap.
  */
 itanropen_judgement itanropen_compare(const uint8_t *first, size_t first_count, const uint8_t *second, size_t second_count);
+
+/* 7. Sealed reports, by target/staticlib/libsealed.a (`rt staticlib sealed`, beside crates/sealed/src/lib.rt), and the reader of seals, by
+ * target/staticlib/libseal.a (`rt staticlib seal`, beside crates/seal/src/lib.rt). A seal is the report's last line: `K`, a tab, the CRC-32 of
+ * ITU-T V.42 over all bytes before that line in eight lowercase hex digits, LF.
+ */
+#define ITANROPEN_SEAL_COUNT 11
+#define ITANROPEN_SEALED_COUNT (ITANROPEN_REPORT_COUNT + ITANROPEN_SEAL_COUNT)
+
+#define ITANROPEN_GOOD 0
+#define ITANROPEN_WRONG 1
+#define ITANROPEN_NO_SEAL 2
+
+/* itanropen_check_sealed: as itanropen_check, with a sealed report.
+ *
+ * Promise (`ExportedSealed` of crates/sealed/specs/Sealed.antt, over `sealed-outcome` of crates/paper/specs/Seal.antt; one outcome only,
+ * `export-one-outcome`), for every sheet and every content of the buffers: that of itanropen_check (section 5), but that
+ * - a report of fewer than ITANROPEN_SEALED_COUNT bytes is refusal 1;
+ * - accepted or faulty: the first `length` bytes of the report are its text and behind it the line that seals it; `length` counts both. What
+ *   stands there is good (`accepted-good`, `faulty-good`). A refusal is not sealed.
+ *
+ * The caller: as for itanropen_check.
+ */
+itanropen_verdict itanropen_check_sealed(uint64_t rule,
+                                         const uint8_t *sheet, size_t sheet_count,
+                                         uint8_t *report, size_t report_count,
+                                         uint16_t *words, size_t words_count,
+                                         uint8_t *queue, size_t queue_count);
+
+/* itanropen_verify: what the seal at the end of a text comes to.
+ *
+ * Promise (`code-of (seal-of text)`, crates/paper/specs/Seal.antt), for any bytes of any length: ITANROPEN_GOOD exactly where the text is a text
+ * of closed lines, or of none, and behind it its seal's line (`good-exactly`); ITANROPEN_WRONG where the last 11 bytes are a line of that
+ * shape with another word; else ITANROPEN_NO_SEAL. A text that differs from a sealed one before the line, inside a run of at most 32 bits, is
+ * never good under the same line (`burst-not-good`). Nothing is changed, and the call returns.
+ *
+ * The caller: the pointer points at as many bytes as the count says, live and readable during the call, written by no one meanwhile; it is
+ * not null.
+ */
+uint8_t itanropen_verify(const uint8_t *text, size_t text_count);
 
 #ifdef __cplusplus
 }

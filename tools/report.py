@@ -1,8 +1,8 @@
-"""What a program wrote of a sheet, or of two reports, judged: whether it is whole, and what it says.
+"""What a program wrote of a sheet, of two reports, or of a seal, judged: whether it is whole, and what it says.
 
-A report is a header and its lines, closed by LF, with as many lines of faults as the header counts; a refusal is one line `X`. This is
-the one place that knows the shapes of lines."""
-import re
+A report is a header and its lines, closed by LF, with as many lines of faults as the header counts, and behind them the line of its seal
+where one was asked for; a refusal is one line `X`. This is the one place that knows the shapes of lines."""
+import binascii, re
 
 NUMBER = rb'(0|[1-9][0-9]{0,4})'
 HEADER = re.compile(rb'R\t(old|house)\t' + NUMBER)
@@ -20,14 +20,24 @@ class Answer:
         self.text, self.code, self.words = text, code, words
 
 
-def judged(text, rule):
+def unsealed(text):
+    """The report before the line that seals it, or None where that line is not its."""
+    before = text[:-len('K_00000000_')]
+    return before if text == b'%sK\t%08x\n' % (before, binascii.crc32(before)) else None
+
+
+def judged(text, rule, sealed=False):
     """The answer that a text under a rule is, or None where the text is not whole."""
     if not text.endswith(b'\n'):
         return None
-    first, *rest = text[:-1].split(b'\n')
-    refusal, header = REFUSAL.fullmatch(first), HEADER.fullmatch(first)
-    if refusal and not rest:
+    refusal = REFUSAL.fullmatch(text[:-1])
+    if refusal:
         return Answer(text, REFUSED, b'refused', *refusal.groups())
+    report = unsealed(text) if sealed else text
+    if not report:
+        return None
+    first, *rest = report[:-1].split(b'\n')
+    header = HEADER.fullmatch(first)
     if not header or header[1] != rule:
         return None
     counted = [[count for shape, count in LINES if shape.fullmatch(line)] for line in rest]
@@ -54,3 +64,12 @@ def compared(text, first, second):
     before = longer[:len(longer) - len(rest)]
     whole = longer.endswith(rest) and first != second and before.count(b'\n') + 1 == int(head[1]) and before == second[:len(before)] == first[:len(before)]
     return PARTED if whole else None
+
+
+GOOD, WRONG, NO_SEAL = 0, 1, 2
+SEALS = {b'good\n': GOOD, b'wrong\n': WRONG, b'none\n': NO_SEAL}
+
+
+def verified(text):
+    """The exit code that a text on a seal says, or None where the text is not whole."""
+    return SEALS.get(text)

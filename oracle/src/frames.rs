@@ -1,16 +1,20 @@
-//! Frames (a line `#` and a decimal length, then that many bytes) and the four answers to a sheet.
+//! Frames (a line `#` and a decimal length, then that many bytes) and the five answers to a sheet.
 
 use crate::house::house_faults;
 use crate::old;
 use crate::plain::{missing, old_faults, State, Wrong};
 use crate::report::{refusal, report, states};
+use crate::seals::sealed;
 use crate::sheet::{read_with, Sheet};
 use std::io::{self, BufRead, Write};
 
 pub const FRAME_LIMIT: usize = 70_000;
 
-/// Old answer, house answer, old entry states, house entry states.
-pub type Answers = [Vec<u8>; 4];
+/// Old answer, house answer, old entry states, house entry states, and the sealed house answer, empty where it is a refusal.
+pub type Answers = [Vec<u8>; 5];
+
+/// How many of them the stored lists hold: all but the sealed one.
+pub const STORED: usize = 4;
 
 /// Who answers for the old rule.
 #[derive(Clone, Copy, PartialEq, Eq)]
@@ -29,7 +33,7 @@ pub fn answers(sheet: &[u8], old: Old, wrong: Wrong) -> Answers {
         Ok(sheet) => read_answers(&sheet, old, wrong),
         Err(r) => {
             let line = refusal(r.number, r.line);
-            [line.clone(), line, Vec::new(), Vec::new()]
+            [line.clone(), line, Vec::new(), Vec::new(), Vec::new()]
         }
     }
 }
@@ -49,7 +53,8 @@ fn read_answers(sheet: &Sheet, old: Old, wrong: Wrong) -> Answers {
             (report("house", &faults), states(&marked))
         }
     };
-    [old_answer, house_answer, old_states, house_states]
+    let sealed_answer = sealed(&house_answer);
+    [old_answer, house_answer, old_states, house_states, sealed_answer]
 }
 
 fn old_state_lines(list: Vec<State>) -> Vec<u8> {
@@ -104,7 +109,7 @@ fn frame_length(line: &[u8]) -> Option<usize> {
     text.parse().ok()
 }
 
-/// Answers every sheet of the input with four frames.
+/// Answers every sheet of the input with five frames.
 pub fn speak(
     input: &mut dyn BufRead,
     out: &mut dyn Write,

@@ -15,6 +15,7 @@ mod pairs;
 mod plain;
 mod random;
 mod report;
+mod seals;
 mod selftest;
 mod sheet;
 mod shrink;
@@ -37,9 +38,10 @@ use plain::{Wrong, WRONGS};
 use std::io::{self, Write};
 
 const USAGE: &str = "usage:
-  oracle speak                       answers frames on standard input with four frames each
+  oracle speak                       answers frames on standard input with five frames each
   oracle drive N SEED COMMAND        compares COMMAND, which speaks frames, on N sheets and those of every run
   oracle pairs N SEED COMMAND        compares COMMAND, which compares two reports, on N pairs of reports
+  oracle seals N SEED COMMAND        compares COMMAND, which verifies seals, on N texts
   oracle self-test N SEED            the tests of the tests
   oracle sheet SEED INDEX            writes one generated sheet
   oracle timed SEED INDEX            writes one function that bench/ times
@@ -59,6 +61,9 @@ fn main() {
         }
         ["pairs", pairs, seed, command] => {
             number(pairs).and_then(|n| pairs::drive(n, number(seed)?, command))
+        }
+        ["seals", texts, seed, command] => {
+            number(texts).and_then(|n| seals::drive(n, number(seed)?, command))
         }
         ["sheet", seed, index] => number(seed).and_then(|s| written(&generate::generate(s, number(index)?).1)),
         ["timed", seed, index] => number(seed).and_then(|s| written(&generate::timed(s, number(index)?).text())),

@@ -161,7 +161,12 @@ fn field_changed(random: &mut Random, lines: &mut [String]) {
     lines[line] = fields.join("\t");
 }
 
-fn byte(random: &mut Random) -> u8 {
+/// A report's bytes.
+pub fn some_report(random: &mut Random) -> Vec<u8> {
+    joined(&report(random))
+}
+
+pub fn byte(random: &mut Random) -> u8 {
     let odd = random.below(256) as u8;
     *random.pick(&[b'\t', b'\n', b'\r', b' ', b'0', b'1', b'8', b'-', b'r', b'v', b's', b'E', 0, odd])
 }
@@ -226,6 +231,12 @@ fn changed(random: &mut Random, kind: usize, mut lines: Vec<String>, first: &[u8
 
 /// What a command writes of a batch of pairs, an answer each.
 fn answers(command: &str, pairs: &[(usize, Vec<u8>, Vec<u8>)]) -> Result<Vec<Vec<u8>>, String> {
+    let texts: Vec<&[u8]> = pairs.iter().flat_map(|(_, first, second)| vec![&first[..], &second[..]]).collect();
+    answered(command, &texts)
+}
+
+/// The frames that a command writes of texts in frames.
+pub fn answered(command: &str, texts: &[&[u8]]) -> Result<Vec<Vec<u8>>, String> {
     let mut child = Command::new("sh")
         .arg("-c")
         .arg(format!("exec {}", command))
@@ -234,8 +245,8 @@ fn answers(command: &str, pairs: &[(usize, Vec<u8>, Vec<u8>)]) -> Result<Vec<Vec
         .spawn()
         .map_err(|e| format!("cannot start {}: {}", command, e))?;
     let mut input = Vec::new();
-    for (_, first, second) in pairs {
-        write_frame(&mut input, first).and_then(|()| write_frame(&mut input, second)).map_err(|e| e.to_string())?;
+    for text in texts {
+        write_frame(&mut input, text).map_err(|e| e.to_string())?;
     }
     let mut stdin = child.stdin.take().unwrap();
     let feeder = std::thread::spawn(move || {

@@ -2,7 +2,7 @@
 
 use crate::damage::boundaries;
 use crate::drive::{fault_kinds, refused_as, sensitive, ORDERS};
-use crate::frames::{answers, read_frame, write_frame, Answers, Old};
+use crate::frames::{answers, read_frame, write_frame, Answers, Old, STORED};
 use crate::generate::{generate, KINDS};
 use crate::plain::{reached, Wrong, WRONGS};
 use crate::report::refusal;
@@ -84,7 +84,7 @@ fn write_answers(file: &mut File, sheets: &[Vec<u8>]) -> std::io::Result<()> {
     let mut out = BufWriter::new(file);
     for sheet in sheets {
         write_frame(&mut out, sheet)?;
-        for answer in answers(sheet, Old::Rust, Wrong::Nothing).iter() {
+        for answer in answers(sheet, Old::Rust, Wrong::Nothing).iter().take(STORED) {
             write_frame(&mut out, answer)?;
         }
     }
@@ -266,7 +266,7 @@ pub fn check(folder: &str) -> Result<(), String> {
     let mut input = BufReader::new(File::open(format!("{}/answers.frames", folder)).map_err(text)?);
     let mut count = 0;
     while let Some(sheet) = read_frame(&mut input)? {
-        for answer in answers(&sheet, Old::Rust, Wrong::Nothing).iter() {
+        for answer in answers(&sheet, Old::Rust, Wrong::Nothing).iter().take(STORED) {
             if read_frame(&mut input)?.as_ref() != Some(answer) {
                 return Err(format!("answers.frames: sheet {} has another answer now", count));
             }

@@ -1,4 +1,4 @@
--- A request is the letter of a rule and a sheet; what it is answered with.
+-- A request is the letter of a rule, in upper case for a sealed report, and a sheet; what it is answered with.
 use mathlib.Core.Path.{_≡_}
 use mathlib.Core.List.{List, [], _∷_}
 use mathlib.Core.Bool.{cond}
@@ -6,12 +6,13 @@ use Prim.Native.Nat.{ℕ, _≤_}
 use lib.Dec.{eqb}
 use lib.ListN.{length}
 use Rattle.paper.specs.Text.{Bytes}
-use Rattle.paper.specs.Limits.{report-size}
+use Rattle.paper.specs.Limits.{report-size, sealed-size}
 use Rattle.paper.specs.Answer.{Lent, answer, written}
+use Rattle.paper.specs.Seal.{sealed-said}
 use Rattle.paper.specs.declared.Rule.the-variants as rule
 use Rattle.checker.specs.Checked.{TextOutcome, text-outcome}
 use Rattle.answers.specs.declared.Asked.{Asked}
-use Rattle.answers.specs.declared.Asked.the-variants.{For, Nothing}
+use Rattle.answers.specs.declared.Asked.the-variants.{For, Sealed, Nothing}
 use Rattle.answers.specs.declared.Reply.{Reply}
 use Rattle.answers.specs.declared.Reply.the-variants.{Text, Malformed}
 
@@ -21,9 +22,17 @@ letter-h = 104
 abbrev pub letter-o : ℕ
 letter-o = 111
 
--- the rule that a letter asks for
+abbrev pub letter-H : ℕ
+letter-H = 72
+
+abbrev pub letter-O : ℕ
+letter-O = 79
+
+-- the rule that a letter asks for, with or without a seal
 unfoldable pub rule-asked : ℕ → Asked
-rule-asked letter = cond (eqb letter letter-h) (For rule.House) (cond (eqb letter letter-o) (For rule.Old) Nothing)
+rule-asked letter =
+    cond (eqb letter letter-h) (For rule.House)
+    (cond (eqb letter letter-o) (For rule.Old) (cond (eqb letter letter-H) (Sealed rule.House) (cond (eqb letter letter-O) (Sealed rule.Old) Nothing)))
 
 pub record ReplyOutcome : Type 0 where
   pub reply : Reply
@@ -35,6 +44,7 @@ texted t = record { reply = Text (t .text-length); buffers = t .buffers }
 -- under a rule the text is the answer to the sheet; where none is asked for nothing changes
 unfoldable pub reply-under : Asked → Bytes → Lent → ReplyOutcome
 reply-under (For rule) sheet before = texted (text-outcome report-size (written (answer rule sheet)) before)
+reply-under (Sealed rule) sheet before = texted (text-outcome sealed-size (written (sealed-said (answer rule sheet))) before)
 reply-under Nothing sheet before = record { reply = Malformed; buffers = before }
 
 -- the first byte asks for the rule, and the sheet is what stands behind it

@@ -1,17 +1,18 @@
-// The program that the command runs: standard input is frames, each a request, which is the letter of a rule (`o` old, `h` house)
-// and a sheet behind it. Each is answered by one frame: the report under that rule, or `X number line`.
+// The program that the command runs: standard input is frames, each a request, which is the letter of a rule (`o` old, `h` house; `O`,
+// `H` for a sealed report) and a sheet behind it. Each is answered by one frame: the report under that rule, or `X number line`.
 ghost use mathlib.Core.Path.{_≡_};
 ghost use Rattle.checker.specs.Checked.{lent};
 ghost use Rattle.answers.specs.Request.{rule-asked, Replied};
 use frames::Frame;
 use layout::QUEUE_SIZE;
-use layout::REPORT_SIZE;
+use layout::SEALED_SIZE;
 use layout::WORDS_SIZE;
 use paper::Rule;
 
-// The rule that a letter asks for, if it is the letter of one.
+// The rule that a letter asks for, with or without a seal, if it is the letter of one.
 enum Asked {
     For(Rule),
+    Sealed(Rule),
     Nothing,
 }
 
@@ -30,6 +31,12 @@ fn rule_asked(letter: u8) -> Asked
     if letter == b'o' {
         return Asked::For(Rule::Old);
     }
+    if letter == b'H' {
+        return Asked::Sealed(Rule::House);
+    }
+    if letter == b'O' {
+        return Asked::Sealed(Rule::Old);
+    }
     Asked::Nothing
 }
 
@@ -40,11 +47,18 @@ fn reply_to(request: &[u8], report: &mut [u8], words: &mut [u16], queue: &mut [u
     if request.len() == 0 {
         return Reply::Malformed;
     }
-    let Asked::For(rule) = rule_asked(request[0]) else {
-        return Reply::Malformed;
-    };
-    let length = checker::answer_text(rule, &request[1..], report, words, queue);
-    Reply::Text(length)
+    let asked = rule_asked(request[0]);
+    match asked {
+        Asked::For(rule) => {
+            let length = checker::answer_text(rule, &request[1..], report, words, queue);
+            Reply::Text(length)
+        }
+        Asked::Sealed(rule) => {
+            let length = sealed::sealed_text(rule, &request[1..], report, words, queue);
+            Reply::Text(length)
+        }
+        Asked::Nothing => Reply::Malformed,
+    }
 }
 
 fn malformed() -> bool {
@@ -87,7 +101,7 @@ fn one(
 fn main() {
     // A letter, and one byte more than the longest sheet, so that a longer one is seen to be too long.
     let mut request = [0u8; 65538];
-    let mut report = [0u8; REPORT_SIZE];
+    let mut report = [0u8; SEALED_SIZE];
     let mut words = [0u16; WORDS_SIZE];
     let mut queue = [0u8; QUEUE_SIZE];
     let mut turns = u64::MAX;

@@ -130,7 +130,7 @@ pub fn answer_text(
     }
 }
 
-fn verdict_of(said: Answer) -> Verdict
+pub fn verdict_of(said: Answer) -> Verdict
     ensures { λ r. ⌜ r ≡ verdict-of said ⌝ }
 {
     match said {
@@ -156,7 +156,7 @@ fn verdict_of(said: Answer) -> Verdict
 }
 
 // The rule by its number over the C interface: 0 is the old rule, and every other number the house rule.
-fn rule_of(number: u64) -> Rule
+pub fn rule_of(number: u64) -> Rule
     ensures { λ r. ⌜ r ≡ rule-of number ⌝ }
 {
     if number == 0 { Rule::Old } else { Rule::House }

@@ -35,6 +35,11 @@ pub const LONGEST_HEADER: usize = 16;
 // The report: a line for each step, and the header.
 pub const REPORT_SIZE: usize = MAX_STEPS * LONGEST_FAULT_LINE + LONGEST_HEADER;
 
+// The seal's line, and a report with room for it.
+pub const SEAL_SIZE: usize = 11;
+
+pub const SEALED_SIZE: usize = REPORT_SIZE + SEAL_SIZE;
+
 // The words: those of the layout below, and room for 128 blocks and argument cells.
 pub const WORDS_SIZE: usize = 32768;
 

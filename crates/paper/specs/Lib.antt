@@ -8,5 +8,6 @@ pub mod Runs
 pub mod Report
 pub mod Answer
 pub mod Comparison
+pub mod Seal
 pub mod Walks
 pub mod Programs

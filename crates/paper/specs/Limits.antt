@@ -43,6 +43,13 @@ longest-header = 16
 abbrev pub report-size : ℕ
 report-size = max-steps * longest-fault-line + longest-header
 
+-- document 02, A3: "The sealed form needs 11 bytes more of report buffer"
+abbrev pub seal-size : ℕ
+seal-size = 11
+
+abbrev pub sealed-size : ℕ
+sealed-size = report-size + seal-size
+
 -- the published sizes of the scratch: words of 16 bits for the loaded sheet and the states, bytes for the queue, which has room
 -- for every visit that the old run can make
 abbrev pub words-size : ℕ

@@ -1,4 +1,5 @@
-// The choices that the papers name, document 01's refusals and answers, and what two reports come to, as the code passes them.
+// The choices that the papers name, document 01's refusals and answers, what two reports come to, and what a seal
+// comes to, as the code passes them.
 
 // The rule is a choice of two, with no third value.
 pub enum Rule {
@@ -44,4 +45,11 @@ pub enum Compared {
     Equal,
     Parts { line: usize, place: usize },
     Malformed { side: u8, line: usize },
+}
+
+// What the seal of a text comes to: good; a wrong word; or there is no seal line at its end.
+pub enum Seal {
+    Good,
+    Wrong,
+    None,
 }

@@ -1,9 +1,12 @@
-// For comparison with another checker: standard input is frames, each a sheet. For each sheet it writes four frames: the old
-// answer, the house answer, the old entry states and the house entry states.
+// For comparison with another checker: standard input is frames, each a sheet. For each sheet it writes five frames: the old
+// answer, the house answer, the old entry states, the house entry states, and the sealed house answer, empty where it is a refusal.
+ghost use Prim.Native.Nat.{_≤_};
+ghost use lib.ListN.{length};
 use frames::Frame;
 use layout::QUEUE_SIZE;
-use layout::REPORT_SIZE;
+use layout::SEALED_SIZE;
 use layout::WORDS_SIZE;
+use paper::Answer;
 use paper::Rule;
 use states::Part;
 
@@ -23,7 +26,30 @@ fn write_part(
     frames::write(&text[..house])
 }
 
-// The four frames of one sheet; whether to go on.
+// The sealed house report: its length, 0 where the sheet is refused.
+fn sealed_length(sheet: &[u8], text: &mut [u8], words: &mut [u16], queue: &mut [u8]) -> usize
+    ensures { λ r. ⌜ r ≤ length (now (text .exit)) ⌝ }
+{
+    let said = sealed::check_sealed(Rule::House, sheet, text, words, queue);
+    match said {
+        Answer::Accepted(length) => length,
+        Answer::Faulty(length) => length,
+        Answer::Refused(refusal) => 0,
+    }
+}
+
+// The sealed house report as a frame; whether it could be written.
+fn write_sealed(
+    sheet: &[u8],
+    text: &mut [u8],
+    words: &mut [u16; WORDS_SIZE],
+    queue: &mut [u8; QUEUE_SIZE],
+) -> bool {
+    let length = sealed_length(sheet, text, words, queue);
+    frames::write(&text[..length])
+}
+
+// The five frames of one sheet; whether to go on.
 fn write_frames(
     sheet: &[u8],
     text: &mut [u8],
@@ -35,6 +61,10 @@ fn write_frames(
         return false;
     }
     if !write_part(Part::States, sheet, text, words, queue) {
+        os::fail(b"stream: standard output");
+        return false;
+    }
+    if !write_sealed(sheet, text, words, queue) {
         os::fail(b"stream: standard output");
         return false;
     }
@@ -61,7 +91,7 @@ fn one(
 
 fn main() {
     let mut sheet = [0u8; 70000];
-    let mut text = [0u8; REPORT_SIZE];
+    let mut text = [0u8; SEALED_SIZE];
     let mut words = [0u16; WORDS_SIZE];
     let mut queue = [0u8; QUEUE_SIZE];
     let mut turns = u64::MAX;

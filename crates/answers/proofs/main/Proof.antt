@@ -6,7 +6,7 @@ use Rattle.answers.proofs.main.Statement.{statement}
 use Rattle.answers.proofs.main.Tie as tie
 
 abbrev Inv-loop : tie.InvT-loop
-Inv-loop request₀ report₀ words₀ queue₀ turns₀ request report words queue turns = (length request ≡ 65538) × (length report ≡ 32784)
+Inv-loop request₀ report₀ words₀ queue₀ turns₀ request report words queue turns = (length request ≡ 65538) × (length report ≡ 32795)
 
 abbrev μ-loop : tie.MeasureT-loop
 μ-loop request₀ report₀ words₀ queue₀ turns₀ request report words queue turns = turns

@@ -1,0 +1,3 @@
+pub mod Laws
+pub mod LawsText
+pub mod LawsSeal
