@@ -32,6 +32,9 @@ pub enum End {
     Neither,
 }
 
+// The digit 0 in 32 bits, where a digit's value is taken: a difference of eight bits would have to be cut to them first.
+const ZERO: u32 = 48;
+
 fn is_digit(b: u8) -> bool
     ensures { λ r. ⌜ r ≡ is-digit b ⌝ }
 {
@@ -71,7 +74,7 @@ pub fn read_number(s: &[u8], at: usize) -> Number
     if !is_digit(first) {
         return Number::Bad;
     }
-    let mut v = (first - b'0') as u32;
+    let mut v = first as u32 - ZERO;
     let mut i = at + 1;
     while i < s.len() {
         let b = s[i];
@@ -87,7 +90,7 @@ pub fn read_number(s: &[u8], at: usize) -> Number
         if 9999 < v {
             return Number::Bad;
         }
-        v = v * 10 + (b - b'0') as u32;
+        v = v * 10 + (b as u32 - ZERO);
         i += 1;
     }
     Number::Value(v, i)

@@ -50,11 +50,11 @@ is-digit-requires c κs = search needs
 returns-2 : tie.Need-returns-2 Inv-loop μ-loop
 returns-2 c = (bad-first _ _ (omega arith) (sym (c .before .is-digit .ensures) ∙ not-true _ (c .if2 .taken)), tt)
 
-sub-v : tie.Need-sub-v Inv-loop μ-loop
-sub-v c = omega (arith, digit-range _ (leads c))
-
 cast-v : tie.Need-cast-v Inv-loop μ-loop
 cast-v c = omega (arith, digit-range _ (leads c))
+
+sub-v : tie.Need-sub-v Inv-loop μ-loop
+sub-v c = omega (arith, digit-range _ (leads c))
 
 add-i : tie.Need-add-i Inv-loop μ-loop
 add-i c = search needs
@@ -92,11 +92,11 @@ returns-5 c =
 mul-v : tie.Need-mul-v Inv-loop μ-loop
 mul-v c = search needs
 
-sub-v-2 : tie.Need-sub-v-2 Inv-loop μ-loop
-sub-v-2 c = omega (arith, digit-range _ (digit (c .before .before)))
-
 cast-v-2 : tie.Need-cast-v-2 Inv-loop μ-loop
 cast-v-2 c = omega (arith, digit-range _ (digit (c .before .before)))
+
+sub-v-2 : tie.Need-sub-v-2 Inv-loop μ-loop
+sub-v-2 c = omega (arith, digit-range _ (digit (c .before .before)))
 
 add-v : tie.Need-add-v Inv-loop μ-loop
 add-v c = omega (arith, digit-range _ (digit (c .before .before)))
@@ -133,8 +133,8 @@ read-number-spec =
     shared-slice-read-first
     is-digit-requires
     returns-2
-    sub-v
     cast-v
+    sub-v
     add-i
     loop-holds
     shared-slice-read-b
@@ -144,8 +144,8 @@ read-number-spec =
     returns-4
     returns-5
     mul-v
-    sub-v-2
     cast-v-2
+    sub-v-2
     add-v
     add-i-2
     loop-less
