@@ -132,7 +132,7 @@ answered-from {report} {r} a e w = record {
 }
 
 -- refusal 1 changes nothing
-pub turned-short : (rule : Rule) (sheet : Bytes) (before : Lent) → too-short report-size before ≡ true → Checked rule sheet before before (Refused (record { number = 1; line = 0 }))
+pub turned-short : (rule : Rule) (sheet : Bytes) (before : Lent) → too-short report-size before ≡ true → Checked rule sheet before before (Refused (record { number = 1; line = 0; field = 0 }))
 unfolding outcome
 turned-short rule sheet before e = record { whole = rw e; within = (omega arith, omega arith) }
 
