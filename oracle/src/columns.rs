@@ -266,6 +266,9 @@ impl Maker {
             let at = self.random.within(field + 1, line.len());
             self.break_field(line, at, number);
         }
+        if more_faults && number == 3 && self.random.percent(20) {
+            self.misspell(line, line.len() + 1);
+        }
     }
 
     /// Breaks one field so that it shows the number, where it can.
