@@ -48,12 +48,12 @@ static void fill(void)
 
 static int refused(itanropen_verdict v, unsigned number)
 {
-    return v.answer == ITANROPEN_REFUSED && v.number == number && v.length == 0 && v.line == 0;
+    return v.answer == ITANROPEN_REFUSED && v.number == number && v.length == 0 && v.line == 0 && v.field == 0;
 }
 
 static int says(itanropen_verdict v, uint8_t answer, const char *text)
 {
-    return v.answer == answer && v.number == 0 && v.line == 0 && v.length >= strlen(text) && memcmp(buffers.report, text, strlen(text)) == 0;
+    return v.answer == answer && v.number == 0 && v.line == 0 && v.field == 0 && v.length >= strlen(text) && memcmp(buffers.report, text, strlen(text)) == 0;
 }
 
 static void try_rules(size_t length)
@@ -103,6 +103,13 @@ static void try_nulls(size_t length)
     expect(refused(itanropen_check(1, NULL, 0, buffers.report, ITANROPEN_REPORT_COUNT, buffers.words, ITANROPEN_WORDS_COUNT, buffers.queue, ITANROPEN_QUEUE_COUNT), 2),
            "this build: a null sheet with count 0 is refusal 2");
     expect(refused(itanropen_check(1, sheet, length, NULL, 0, NULL, 0, NULL, 0), 1), "this build: null buffers with count 0 are refusal 1");
+}
+
+static void try_field(void)
+{
+    static const char text[] = "F\t0\t0\t0\t0\t0\n";
+    itanropen_verdict v = itanropen_check_in(&buffers, ITANROPEN_HOUSE_RULE, (const uint8_t *)text, strlen(text));
+    expect(v.answer == ITANROPEN_REFUSED && v.number == 5 && v.length == 0 && v.line == 1 && v.field == 5, "a refusal names line and field");
 }
 
 /* calls at the same time, each with buffers of its own and all with one sheet */
@@ -185,6 +192,7 @@ int main(void)
     try_lengths(length);
     try_leavings(length);
     try_nulls(length);
+    try_field();
     try_threads(length);
     try_stack(length);
     return failed;
