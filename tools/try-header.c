@@ -121,6 +121,13 @@ static void try_nulls(size_t length)
     expect(refused(itanropen_check(1, sheet, length, NULL, 0, NULL, 0, NULL, 0), 1), "this build: null buffers with count 0 are refusal 1");
 }
 
+static void try_field(void)
+{
+    static const char text[] = "F\t0\t0\t0\t0\t0\n";
+    itanropen_verdict v = itanropen_check_in(&buffers, ITANROPEN_HOUSE_RULE, (const uint8_t *)text, strlen(text));
+    expect(v.answer == ITANROPEN_REFUSED && v.number == 5 && v.length == 0 && v.line == 1 && v.field == 5, "a refusal names line and field");
+}
+
 /* calls at the same time, each with buffers of its own and all with one sheet */
 struct caller {
     uint64_t rule;
@@ -202,6 +209,7 @@ int main(void)
     try_leavings(length);
     try_fields();
     try_nulls(length);
+    try_field();
     try_threads(length);
     try_stack(length);
     return failed;

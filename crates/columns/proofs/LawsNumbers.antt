@@ -87,8 +87,8 @@ module _ {s : Bytes} {at number limit least count i : ℕ} (c : Counting s at nu
     pub counting-more : (eqb number 6 && ltb v least) ≡ false → v < 100000 → Counting s at number limit (v + 1) (count + 1) after
     counting-more e small =
         let q : numbers-passing number limit least (fields-behind s i) ≡ suc (numbers-passing number limit (suc v) (fields-behind s after)) =
-            numbers-step number limit least (fields-behind s i)
-            ∙ passed-on (passed-both (rising number least) p (rising-as number least v ∙ rw e)) _ refl in
+        numbers-step number limit least (fields-behind s i)
+        ∙ passed-on (passed-both (rising number least) p (rising-as number least v ∙ rw e)) _ refl in
         record {
           gives = c .gives ∙ rw (q, add-one v) (omega arith);
           behind = p .field .behind;

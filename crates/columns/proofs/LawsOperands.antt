@@ -92,8 +92,8 @@ module _ {test : Operand → Bool} {s : Bytes} {i : ℕ} {us : List Operand} whe
   unfolding operands-of any
   left-none l =
       let z : l .others ≡ [] =
-          let w : _≡_ {A = Read (List Operand)} (record { value = []; rest = fields-behind s i }) (record { value = l .others; rest = l .ahead .rest }) = let e = l .ahead .says in cc in
-          ap (λ (x : Read (List Operand)). x .value) (sym w) in
+      let w : _≡_ {A = Read (List Operand)} (record { value = []; rest = fields-behind s i }) (record { value = l .others; rest = l .ahead .rest }) = let e = l .ahead .says in cc in
+      ap (λ (x : Read (List Operand)). x .value) (sym w) in
       sym (l .same ∙ ap (any test) z)
 
   module _ {n : ℕ} {u : Operand} {after : ℕ} (next-one : NextOperand s i u after) where

@@ -111,9 +111,9 @@ module _ {sheet : Bytes} {at line : ℕ} {words₀ words : List ℕ} (ahead : Ah
     line-bad {refusal} b =
         let same : words′ ≡ words = r .bad-line (breach .number) refused-by in
         let e : refusal .field ≡ field-of (breach .number) (so-far-of (so-far words)) (fields (line-at sheet at)) =
-            b .field-is (so-far-of (so-far words)) (rw same (so-far-counted words (ahead .progress) _ refl)) in
+        b .field-is (so-far-of (so-far words)) (rw same (so-far-counted words (ahead .progress) _ refl)) in
         let whole : _≡_ {A = Refusal} (record { number = breach .number; line = line; field = field-of (breach .number) (so-far-of (so-far words)) (fields (line-at sheet at)) }) refusal =
-            rw (← e, ← b .number-is, ← b .line-is) refl in
+        rw (← e, ← b .number-is, ← b .line-is) refl in
         refused-load (next-line ∙ rw refused-by (ap refused whole)) (r .same-length ∙ ahead .same-length)
 
 -- the end
