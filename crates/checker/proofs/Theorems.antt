@@ -60,7 +60,7 @@ outcome-accepted rule sheet before n e = at (too-short report-size before) refl 
     told o f = e ∙ ap (λ (x : Outcome). x .answer) f
 
     at : (b : Bool) → too-short report-size before ≡ b → (said : Said) → answer rule sheet ≡ said → (text : Bytes) × (answer rule sheet ≡ accepted text)
-    at true s said t = let p = told (record { answer = Refused (record { number = 1; line = 0 }); lent = before }) (rw s) in let z : _≡_ {A = ℕ} 0 1 = cc in absurd (omega arith)
+    at true s said t = let p = told (record { answer = Refused (record { number = 1; line = 0; field = 0 }); lent = before }) (rw s) in let z : _≡_ {A = ℕ} 0 1 = cc in absurd (omega arith)
     at false s (accepted text) t = (text, t)
     at false s (faulty text) t = let p = told (outcome-of (faulty text) before) (rw (s, t)) in let z : _≡_ {A = ℕ} 0 1 = cc in absurd (omega arith)
     at false s (turned-away refusal) t = let p = told (outcome-of (turned-away refusal) before) (rw (s, t)) in let z : _≡_ {A = ℕ} 0 1 = cc in absurd (omega arith)
@@ -153,7 +153,7 @@ unfolding outcome outcome-of answer said-after answer-of
 outcome-reported rule sheet before given = at (too-short report-size before) refl (read sheet) refl
   where
     at : (b : Bool) → too-short report-size before ≡ b → (o : Reading) → read sheet ≡ o → ReportOf rule sheet before ((outcome rule sheet before) .lent)
-    at true s o h = absurd (given (record { number = 1; line = 0 }) (rw s))
+    at true s o h = absurd (given (record { number = 1; line = 0; field = 0 }) (rw s))
     at false s (refused refusal) h = absurd (given refusal (rw (s, h)))
     at false s (loaded S) h = record {
       sheet = S;
@@ -204,7 +204,7 @@ outcome-well-formed rule sheet before n e = at (too-short report-size before) re
         → bad-line (take n ((outcome rule sheet before) .lent .report)) ≡ 0
     at true s said t =
         ⊎-elim (λ h. let z : _≡_ {A = ℕ} 0 1 = cc in absurd (omega arith)) (λ h. let z : _≡_ {A = ℕ} 0 1 = cc in absurd (omega arith))
-        (told (record { answer = Refused (record { number = 1; line = 0 }); lent = before }) (rw s))
+        (told (record { answer = Refused (record { number = 1; line = 0; field = 0 }); lent = before }) (rw s))
     at false s (accepted text) t =
         let p = told (outcome-of (accepted text) before) (rw (s, t)) in
         let k : length text ≡ n = ⊎-elim (λ h. (cc)) (λ h. let z : _≡_ {A = ℕ} 0 1 = cc in absurd (omega arith)) p in
