@@ -102,7 +102,7 @@ static void try_fields(void)
     static const struct {
         const char *sheet;
         unsigned number, line, field;
-    } refusals[] = {{"\n", 3, 1, 1}, {"F\t0\t0\t0\t1\n", 3, 1, 6}, {"F\t0\t0\t0\t1\t1\n", 5, 1, 6}, {"F\t1\t1\t0\t1\t0\nB\nP\t0\t0\t0\n", 6, 3, 4},
+    } refusals[] = {{"\n", 3, 1, 1}, {"F\t0\t0\t0\t1\n", 3, 1, 6}, {"F\t0\t0\t0\t0\t0\n", 5, 1, 5}, {"F\t0\t0\t0\t1\t1\n", 5, 1, 6}, {"F\t1\t1\t0\t1\t0\nB\nP\t0\t0\t0\n", 6, 3, 4},
                     {"F\t1\t1\t0\t1\t0\nB\nO\t0\t1\tr0\t-\t0\n", 7, 3, 5}, {"F\t0\t0\t0\t1\t0\n", 4, 2, 0}};
     size_t i;
     for (i = 0; i < ITANROPEN_COUNT(refusals); i++) {
@@ -119,13 +119,6 @@ static void try_nulls(size_t length)
     expect(refused(itanropen_check(1, NULL, 0, buffers.report, ITANROPEN_REPORT_COUNT, buffers.words, ITANROPEN_WORDS_COUNT, buffers.queue, ITANROPEN_QUEUE_COUNT), 2),
            "this build: a null sheet with count 0 is refusal 2");
     expect(refused(itanropen_check(1, sheet, length, NULL, 0, NULL, 0, NULL, 0), 1), "this build: null buffers with count 0 are refusal 1");
-}
-
-static void try_field(void)
-{
-    static const char text[] = "F\t0\t0\t0\t0\t0\n";
-    itanropen_verdict v = itanropen_check_in(&buffers, ITANROPEN_HOUSE_RULE, (const uint8_t *)text, strlen(text));
-    expect(v.answer == ITANROPEN_REFUSED && v.number == 5 && v.length == 0 && v.line == 1 && v.field == 5, "a refusal names line and field");
 }
 
 /* calls at the same time, each with buffers of its own and all with one sheet */
@@ -209,7 +202,6 @@ int main(void)
     try_leavings(length);
     try_fields();
     try_nulls(length);
-    try_field();
     try_threads(length);
     try_stack(length);
     return failed;
