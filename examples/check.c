@@ -1,4 +1,4 @@
-/* check [FILE]: what `regcheck` writes of the sheet in FILE, or on standard input: its house report, or `X number line`. Ends with 0 for
+/* check [FILE]: what `regcheck` writes of the sheet in FILE, or on standard input: its house report, or `X number line field`. Ends with 0 for
  * accepted, 1 for faulty, 2 for refused, 3 where the sheet could not be read.
  *
  * cc -std=c99 -Iinclude -o check examples/check.c target/staticlib/libchecker.a
@@ -14,7 +14,7 @@ static itanropen_buffers buffers;
 static void write_answer(itanropen_verdict verdict)
 {
     if (verdict.answer == ITANROPEN_REFUSED) {
-        printf("X\t%u\t%lu\n", (unsigned)verdict.number, (unsigned long)verdict.line);
+        printf("X\t%u\t%lu\t%lu\n", (unsigned)verdict.number, (unsigned long)verdict.line, (unsigned long)verdict.field);
     } else {
         fwrite(buffers.report, 1, verdict.length, stdout);
     }

@@ -1,4 +1,4 @@
-//! check [FILE]: what `regcheck` writes of the sheet in FILE, or on standard input: its house report, or `X number line`. Ends with 0
+//! check [FILE]: what `regcheck` writes of the sheet in FILE, or on standard input: its house report, or `X number line field`. Ends with 0
 //! for accepted, 1 for faulty, 2 for refused, 3 where the sheet could not be read.
 //!
 //! rustc --edition 2021 -L native=target/staticlib -o check examples/check.rs
@@ -18,6 +18,7 @@ mod itanropen {
         pub number: u8,
         pub length: usize,
         pub line: usize,
+        pub field: usize,
     }
 
     #[link(name = "checker", kind = "static")]
@@ -89,7 +90,7 @@ fn main() {
     let mut buffers = itanropen::Buffers::new();
     let verdict = buffers.check(itanropen::HOUSE_RULE, &sheet);
     let text = if verdict.answer == itanropen::REFUSED {
-        format!("X\t{}\t{}\n", verdict.number, verdict.line).into_bytes()
+        format!("X\t{}\t{}\t{}\n", verdict.number, verdict.line, verdict.field).into_bytes()
     } else {
         buffers.report[..verdict.length].to_vec()
     };

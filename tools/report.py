@@ -1,12 +1,12 @@
 """What a program wrote of a sheet, of two reports, or of a seal, judged: whether it is whole, and what it says.
 
 A report is a header and its lines, closed by LF, with as many lines of faults as the header counts, and behind them the line of its seal
-where one was asked for; a refusal is one line `X`. This is the one place that knows the shapes of lines."""
+where one was asked for; a refusal is one line `X` with number, line and field. This is the one place that knows the shapes of lines."""
 import binascii, re
 
 NUMBER = rb'(0|[1-9][0-9]{0,4})'
 HEADER = re.compile(rb'R\t(old|house)\t' + NUMBER)
-REFUSAL = re.compile(rb'X\t' + NUMBER + rb'\t' + NUMBER)
+REFUSAL = re.compile(rb'X\t' + NUMBER + rb'\t' + NUMBER + rb'\t' + NUMBER)
 LINES = [  # a line behind the header: its shape, and whether the header counts it
     (re.compile(rb'E(\t[^\t\n]+){7}'), True),
 ]

@@ -1,6 +1,6 @@
-/* What include/itanropen.h says at the edges, tried: rules, short buffers, what a call leaves, null pointers with count 0, calls at the
- * same time; and how much stack a call takes. Compiled and run by tools/try-header, which hands it examples/unfilled-slot.sheet: the
- * old rule accepts that sheet, the house rule does not.
+/* What include/itanropen.h says at the edges, tried: rules, short buffers, what a call leaves, the fields of refusals, null pointers
+ * with count 0, calls at the same time; and how much stack a call takes. Compiled and run by tools/try-header, which hands it
+ * examples/unfilled-slot.sheet: the old rule accepts that sheet, the house rule does not.
  */
 #define _POSIX_C_SOURCE 200809L
 #include "itanropen.h"
@@ -48,12 +48,12 @@ static void fill(void)
 
 static int refused(itanropen_verdict v, unsigned number)
 {
-    return v.answer == ITANROPEN_REFUSED && v.number == number && v.length == 0 && v.line == 0;
+    return v.answer == ITANROPEN_REFUSED && v.number == number && v.length == 0 && v.line == 0 && v.field == 0;
 }
 
 static int says(itanropen_verdict v, uint8_t answer, const char *text)
 {
-    return v.answer == answer && v.number == 0 && v.line == 0 && v.length >= strlen(text) && memcmp(buffers.report, text, strlen(text)) == 0;
+    return v.answer == answer && v.number == 0 && v.line == 0 && v.field == 0 && v.length >= strlen(text) && memcmp(buffers.report, text, strlen(text)) == 0;
 }
 
 static void try_rules(size_t length)
@@ -94,6 +94,22 @@ static void try_leavings(size_t length)
     v = itanropen_check(ITANROPEN_HOUSE_RULE, sheet, length - 1, report, ITANROPEN_COUNT(report), words, ITANROPEN_COUNT(words), queue, ITANROPEN_COUNT(queue));
     expect(refused(v, 2), "a sheet whose last byte is not LF is refusal 2");
     expect(all(report, sizeof report, 0xA5) && all(words, sizeof words, 0) && all(queue, sizeof queue, 0), "a refusal leaves the report, and the scratch zero");
+}
+
+/* number, line and field of refusals that name a field, and of one that names none */
+static void try_fields(void)
+{
+    static const struct {
+        const char *sheet;
+        unsigned number, line, field;
+    } refusals[] = {{"\n", 3, 1, 1}, {"F\t0\t0\t0\t1\n", 3, 1, 6}, {"F\t0\t0\t0\t0\t0\n", 5, 1, 5}, {"F\t0\t0\t0\t1\t1\n", 5, 1, 6}, {"F\t1\t1\t0\t1\t0\nB\nP\t0\t0\t0\n", 6, 3, 4},
+                    {"F\t1\t1\t0\t1\t0\nB\nO\t0\t1\tr0\t-\t0\n", 7, 3, 5}, {"F\t0\t0\t0\t1\t0\n", 4, 2, 0}};
+    size_t i;
+    for (i = 0; i < ITANROPEN_COUNT(refusals); i++) {
+        itanropen_verdict v = itanropen_check_in(&buffers, ITANROPEN_HOUSE_RULE, refusals[i].sheet, strlen(refusals[i].sheet));
+        expect(v.answer == ITANROPEN_REFUSED && v.length == 0 && v.number == refusals[i].number && v.line == refusals[i].line && v.field == refusals[i].field,
+               "a refusal has its number, line and field");
+    }
 }
 
 static void try_nulls(size_t length)
@@ -184,6 +200,7 @@ int main(void)
     try_rules(length);
     try_lengths(length);
     try_leavings(length);
+    try_fields();
     try_nulls(length);
     try_threads(length);
     try_stack(length);

@@ -51,7 +51,7 @@ fn same(function: &Function, ours: &mut Ours, house: bool, faults: &[Fault]) -> 
 /// The empty line is the last, and is what the sheet is refused for.
 fn is_read_wholly(function: &Function, ours: &mut Ours) -> bool {
     let lines = function.longer.iter().filter(|byte| **byte == b'\n').count();
-    let refused = Verdict { answer: REFUSED, number: 3, length: 0, line: lines };
+    let refused = Verdict { answer: REFUSED, number: 3, length: 0, line: lines, field: 1 };
     ours.check(false, &function.longer) == refused
 }
 

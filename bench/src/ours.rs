@@ -15,6 +15,7 @@ pub struct Verdict {
     pub number: u8,
     pub length: usize,
     pub line: usize,
+    pub field: usize,
 }
 
 // As include/itanropen.h declares it: a slice is its pointer and a count of its elements; rule 0 is the old rule, any other the house rule.

@@ -1,6 +1,7 @@
 //! Sheets around the limits, damaged sheets, and lines that break several refusals at once. Most are
 //! to be turned away; each has a near neighbour that is read.
 
+use crate::columns::at_every_target;
 use crate::generate::{allocated, any_inst, numbered, small, tangled};
 use crate::random::Random;
 use crate::sheet::{
@@ -76,6 +77,9 @@ const STEP_LINES: &[&str] = &[
     "B ", "B 0 ", "O 0 0 0 ", "M +0 0", "M -0 0", "M 0x0 0", "M 1e0 0", "M 00000 0", "M 000000 0",
     "M 00001 0", "M 99999 0", "M 100000 0", "M 4294967296 0", "M 18446744073709551616 0",
     "M <inst+1> 0", "M <vregs> 0", "M 0.0 0", "M \u{0661} 0", "S 0 0\r", "B\r", "\r", "P 0\r",
+    "S x", "S 0 x", "S 0 x 0", "S 0 0 0 0", "L x 2", "Q 0 x", "B 0 x", "B 0 0 0 0 0 0 0 0 x", "B 0 x 0 0 0 0 0 0 0 0", "C 0 x v0", "P 0 1 0 2", "P 0 1 0 1 0",
+    "O 0 4 v0 0 v1 0 v1 0 v0 0 0", "O 0 4 v0 0 v1 0 r1 1 v0 0 0", "O 0 0 3 v0 0 v1 0 v0 1", "O 0 2 v0 0 v0 0 2 v0 0 v0 0",
+    "O 0 99999 v0 0 v1 -", "O 0 9 v0", "O 0 9 v0 x", "O 0 1 v0 0 1 v0", "O 0 2 v0 0 v0 0 1 r1 2", "O 0 2 r0 0 r1 0 1 r0 1",
     "S\u{a0}0 0", "S 0 0\u{0}", "\u{0}", "S 0 \u{0}", "\u{feff}S 0 0", "\u{00e9}",
 ];
 
@@ -129,8 +133,8 @@ fn line_sheets(head: &str, lines: &[&str], tail: &str) -> Vec<Vec<u8>> {
     lines.iter().map(|line| sheet(&format!("{}{}\n{}", head, line, tail))).collect()
 }
 
-/// What every run compares behind its generated sheets: those at the limits, and each set of numbers that the
-/// 1,025th step can break at once.
+/// What every run compares behind its generated sheets: those at the limits, each set of numbers that the
+/// 1,025th step can break at once, and a sheet for each letter, number and field that a refusal can name.
 pub fn always() -> Vec<Vec<u8>> {
     let full = format!("{}{}", HEAD_T, "M 0 0\n".repeat(STEPS_LIMIT));
     let mut list = boundaries();
@@ -140,6 +144,7 @@ pub fn always() -> Vec<Vec<u8>> {
     ] {
         list.push(sheet(&format!("{}{}\n", full, last)));
     }
+    list.extend(at_every_target().into_iter().map(|(_, sheet)| sheet));
     list
 }
 
@@ -245,7 +250,15 @@ fn large_limits() -> Vec<Vec<u8>> {
     let mut bad = of_length(SHEET_LIMIT);
     bad[SHEET_LIMIT - 2] = b'x';
     list.push(bad);
+    list.push(widest("P 0", "0", "2"));
+    list.push(widest("O 0 99999", "v0 0", "v0 x"));
     list
+}
+
+/// A sheet of nearly the greatest length whose last line has as many fields as find room; the last of them is what is bad.
+fn widest(first: &str, each: &str, last: &str) -> Vec<u8> {
+    let left = SHEET_LIMIT - HEAD.len() - first.len() - last.len() - 2;
+    sheet(&format!("{}{}{} {}\n", HEAD, first, format!(" {}", each).repeat(left / (each.len() + 1)), last))
 }
 
 /// One step that defines the last name but one in the last register and all others that use the last name there, in the last block:

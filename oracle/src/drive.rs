@@ -1,5 +1,6 @@
 //! Runs a product that speaks frames beside the oracle and compares all five answers.
 
+use crate::columns::{targets, Target};
 use crate::damage::always;
 use crate::frames::{answers, plain_old_answer, read_frame, write_frame, Answers, Old};
 use crate::generate::{generate, KINDS};
@@ -97,6 +98,8 @@ pub struct Counts {
     refused: [usize; 10],
     /// Refused lines by all the numbers that apply to them, where these are several.
     several: BTreeMap<String, usize>,
+    /// Refused lines by letter, number and field.
+    fields: BTreeMap<Target, usize>,
     /// For each rule: accepted sheets, then sheets with a fault of each kind.
     found: [[usize; 8]; 2],
     lines: [[usize; 8]; 2],
@@ -141,12 +144,21 @@ pub fn refused_as(answer: &[u8]) -> Option<usize> {
     number.parse().ok()
 }
 
+/// The letter, number and field of a refused sheet, where a field is named.
+pub fn refused_at(sheet: &[u8]) -> Option<Target> {
+    let refused = read(sheet).err().filter(|refused| refused.field > 0)?;
+    let line = sheet.split(|&byte| byte == b'\n').nth(refused.line - 1)?;
+    let letter = if refused.field == 1 { '?' } else { line[0] as char };
+    Some((letter, refused.number, refused.field))
+}
+
 impl Counts {
     pub fn new() -> Counts {
         Counts {
             made: [0; KINDS.len()],
             refused: [0; 10],
             several: BTreeMap::new(),
+            fields: BTreeMap::new(),
             found: [[0; 8]; 2],
             lines: [[0; 8]; 2],
             house_only: 0,
@@ -163,6 +175,9 @@ impl Counts {
             let (_, numbers) = broken(sheet);
             if number > 2 && numbers.len() > 1 {
                 *self.several.entry(numbers).or_insert(0) += 1;
+            }
+            if let Some(target) = refused_at(sheet) {
+                *self.fields.entry(target).or_insert(0) += 1;
             }
             return;
         }
@@ -187,6 +202,16 @@ impl Counts {
         }
     }
 
+    /// How many of the letters, numbers and fields that refusals can name came, and how often the rarest of them did.
+    fn print_fields(&self) {
+        let targets = targets();
+        let counts: Vec<usize> = targets.iter().map(|target| self.fields.get(target).cloned().unwrap_or(0)).collect();
+        let came = counts.iter().filter(|count| **count > 0).count();
+        println!("letters, numbers and fields of refusals: {} of {}, each {} times or more", came, targets.len(), counts.iter().min().unwrap_or(&0));
+        let others = self.fields.len() - came;
+        println!("  and {} behind the last field of the longest good line", others);
+    }
+
     pub fn print(&self) {
         println!("sheets made, by kind:");
         for (name, count) in KINDS.iter().zip(&self.made) {
@@ -196,6 +221,8 @@ impl Counts {
         for number in 2..10 {
             println!("  {:<12} {}", number, self.refused[number]);
         }
+        println!("  {:<12} {}", "in all", self.refused.iter().sum::<usize>());
+        self.print_fields();
         println!("refused lines to which several numbers apply:");
         for (numbers, count) in &self.several {
             println!("  {:<12} {}", numbers, count);

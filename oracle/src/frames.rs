@@ -29,10 +29,10 @@ pub enum Old {
 
 /// The answers to a sheet.
 pub fn answers(sheet: &[u8], old: Old, wrong: Wrong) -> Answers {
-    match read_with(sheet, wrong == Wrong::SwapFiveSix) {
+    match read_with(sheet, wrong) {
         Ok(sheet) => read_answers(&sheet, old, wrong),
-        Err(r) => {
-            let line = refusal(r.number, r.line);
+        Err(refused) => {
+            let line = refusal(refused);
             [line.clone(), line, Vec::new(), Vec::new(), Vec::new()]
         }
     }

@@ -1,6 +1,7 @@
 //! The generator of well-formed sheets: small, tangled, knotted, ordered, large, allocated, repaired, and allocated with one wrong
 //! step. While it writes steps it keeps a guess of the cells, so that checks often pass.
 
+use crate::columns::columns;
 use crate::damage;
 use crate::house::{house_effect, house_faults};
 use crate::plain::{old_effect, old_faults, Cell, State, Wrong};
@@ -10,11 +11,11 @@ use crate::sheet::{
     read, Block, Name, Operand, Sheet, Step, BLOCKS_LIMIT, INST_LIMIT, OPERANDS_LIMIT, REGS_LIMIT, SLOTS_LIMIT, STEPS_LIMIT, SUCCS_LIMIT, VREGS_LIMIT,
 };
 
-pub const KINDS: [&str; 11] = [
+pub const KINDS: [&str; 12] = [
     "small", "tangled", "knotted", "ordered", "large", "allocated", "repaired", "wrong-step",
-    "limits", "damaged", "several",
+    "limits", "damaged", "several", "columns",
 ];
-const WEIGHTS: [usize; 11] = [240, 90, 100, 80, 4, 60, 80, 90, 40, 106, 110];
+const WEIGHTS: [usize; 12] = [210, 78, 88, 70, 4, 53, 70, 79, 38, 100, 100, 110];
 
 /// The sheet of a seed and an index, with its kind.
 pub fn generate(seed: u64, index: u64) -> (usize, Vec<u8>) {
@@ -31,7 +32,8 @@ pub fn generate(seed: u64, index: u64) -> (usize, Vec<u8>) {
         "wrong-step" => wrong_step(random),
         "limits" => return (kind, damage::limits(random)),
         "damaged" => return (kind, damage::damaged(random)),
-        _ => return (kind, damage::several(random)),
+        "several" => return (kind, damage::several(random)),
+        _ => return (kind, columns(random)),
     };
     (kind, numbered(random, sheet).text())
 }

@@ -5,6 +5,7 @@
 extern crate self as log;
 extern crate self as rustc_hash;
 
+mod columns;
 mod damage;
 mod drive;
 mod frames;
@@ -123,6 +124,7 @@ fn drive(sheets: u64, seed: u64, command: &str) -> Result<(), String> {
         counts: true,
         quiet: false,
     };
+    selftest::known()?;
     let started = std::time::Instant::now();
     let mut counts = Counts::new();
     match drive::compare(&plan, &mut counts)? {

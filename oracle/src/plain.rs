@@ -11,6 +11,8 @@ pub enum Wrong {
     Nothing,
     /// Refusal 6 looked at before 5.
     SwapFiveSix,
+    /// Of several fields that show a fault the last one named.
+    LastField,
     /// A step's later faults reported too.
     LaterFaults,
     /// No effect after a fault.
@@ -37,8 +39,9 @@ pub enum Wrong {
     ChangeMarks,
 }
 
-pub const WRONGS: [(&str, Wrong); 13] = [
+pub const WRONGS: [(&str, Wrong); 14] = [
     ("swap-five-six", Wrong::SwapFiveSix),
+    ("last-field", Wrong::LastField),
     ("later-faults", Wrong::LaterFaults),
     ("skip-effect", Wrong::SkipEffect),
     ("unreached-skipped", Wrong::UnreachedSkipped),

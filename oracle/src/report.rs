@@ -1,6 +1,7 @@
 //! Faults and entry states, and how they are written.
 
 use crate::plain::{Cell, State};
+use crate::sheet::Refusal;
 
 #[derive(Clone, Debug, PartialEq, Eq)]
 pub struct Fault {
@@ -26,8 +27,8 @@ pub fn report(rule: &str, faults: &[Fault]) -> Vec<u8> {
 }
 
 /// A refusal's line.
-pub fn refusal(number: u32, line: usize) -> Vec<u8> {
-    format!("X\t{}\t{}\n", number, line).into_bytes()
+pub fn refusal(refusal: Refusal) -> Vec<u8> {
+    format!("X\t{}\t{}\t{}\n", refusal.number, refusal.line, refusal.field).into_bytes()
 }
 
 /// One line of entry state for each block; the mark is `-`, `0` or `1`.

@@ -1,7 +1,9 @@
 //! The tests of the tests: known cases, the plain old implementation against the Rust, the driver against the
 //! oracle itself, and the driver against each slip.
 
-use crate::drive::{compare, print_difference, shrink_difference, Counts, Plan, Product};
+use crate::columns::{at_every_target, by_trying};
+use crate::damage::boundaries;
+use crate::drive::{compare, print_difference, refused_at, shrink_difference, visible, Counts, Plan, Product};
 use crate::frames::{answers, Old};
 use crate::generate::generate;
 use crate::old;
@@ -70,24 +72,107 @@ pub const CASES: &[(&str, &str, &str)] = &[
     ("F 1 0 2 1 0/B/O 2 1 v1 0 1 v0 -/", "E 0 0 2 1 - v0 -/", "E 0 0 2 1 - v0 -/"),
 ];
 
-/// The design's readings of the table of refusals: lines behind `F 2 2 2 1 0` and `B`, and their
-/// number; 0 is read.
-const READINGS: &[(&str, u32)] = &[
-    ("P 0", 0),
-    ("P 0 0 0 0 0 0 0 0 0 0 0 0 0 0 0 0 0 0 0 0 0 0 0 0 0 0 0 0 0 0 0 0 0 0", 6),
-    ("O 0 0 2 r0 - v1 0", 7),
-    ("O 0 0 2 r0 1 v1 1", 6),
-    ("O 0 0 2 r0 1 v1 0", 7),
-    ("O 0 1 r0 - 0", 7),
-    ("O 0 1 r0 2 0", 5),
-    ("O 0 9 0", 3),
-    ("O 0 9 r0 0 r1 1 r0 0 r1 1 r0 0 r1 1 r0 0 r1 1 r0 0 0", 5),
-    ("T v0", 3),
-    ("F 9 9 9 9 9", 4),
-    ("F 99 99 999 99 99", 4),
+/// Readings of the table of refusals and of request A4: lines behind `F 2 2 2 1 0` and `B`, the number and the field; 0 is read.
+const READINGS: &[(&str, u32, usize)] = &[
+    ("P 0", 0, 0),
+    ("P 0 0 0 0 0 0 0 0 0 0 0 0 0 0 0 0 0 0 0 0 0 0 0 0 0 0 0 0 0 0 0 0 0 0", 6, 4),
+    ("O 0 0 2 r0 - v1 0", 7, 6),
+    ("O 0 0 2 r0 1 v1 1", 6, 8),
+    ("O 0 0 2 r0 1 v1 0", 7, 6),
+    ("O 0 1 r0 - 0", 7, 5),
+    ("O 0 1 r0 2 0", 5, 5),
+    ("O 0 9 0", 3, 4),
+    ("O 0 9 r0 0 r1 1 r0 0 r1 1 r0 0 r1 1 r0 0 r1 1 r0 0 0", 5, 3),
+    ("T v0", 3, 2),
+    ("F 9 9 9 9 9", 4, 0),
+    ("F 99 99 999 99 99", 4, 0),
+    // An ill-formed field, or the first one missing or too many, whichever is first.
+    ("", 3, 1),
+    ("Q 0 x", 3, 1),
+    ("SS 0 0", 3, 1),
+    (" S 0 0", 3, 1),
+    ("S", 3, 2),
+    ("S x", 3, 2),
+    ("S 0", 3, 3),
+    ("S 0 x 0", 3, 3),
+    ("S 0 0 0", 3, 4),
+    ("S 0 0 0 0", 3, 4),
+    ("S 0 0 ", 3, 4),
+    ("S  0 0", 3, 2),
+    ("M 9 00", 3, 3),
+    ("F 2 2 2 1", 3, 6),
+    ("F 2 2 2 1 0 0", 3, 7),
+    ("T", 3, 2),
+    ("T 0 0", 3, 3),
+    ("B ", 3, 2),
+    ("B 0 0 0 0 0 0 0 0 0", 3, 10),
+    ("B 0 0 0 0 0 0 0 0 x y", 3, 10),
+    ("B 0 x 0 0 0 0 0 0 0", 3, 3),
+    ("C 0 0 v0", 3, 5),
+    ("C 0 0 0 v0", 3, 4),
+    ("C 0 0 v0 v1 v1", 3, 6),
+    ("P", 3, 2),
+    ("P 0 1 -", 3, 4),
+    ("O", 3, 2),
+    ("O 0", 3, 3),
+    ("O 0 0", 3, 4),
+    ("O 0 0 0 0", 3, 5),
+    ("O 0 1 v0 0", 3, 6),
+    ("O 0 0 99999", 3, 5),
+    ("O 0 99999 v0 0 v1 -", 3, 8),
+    ("O 0 9 v0", 3, 5),
+    ("O 0 9 v0 x", 3, 5),
+    ("O 0 1 v0 -- 0", 3, 5),
+    ("O 0 1 v0 0 1 v0", 3, 8),
+    // A value beyond its limit.
+    ("S 2 2", 5, 2),
+    ("S 1 2", 5, 3),
+    ("L 1 2", 5, 3),
+    ("C 65536 2 v2 v2", 5, 2),
+    ("C 0 0 v1 r2", 5, 5),
+    ("P 0 1 0 2", 5, 5),
+    ("O 65536 9 v9 0 v9 0 v9 0 v9 0 v9 0 v9 0 v9 0 v9 0 v9 0 0", 5, 2),
+    ("O 0 0 9 v0 0 v0 0 v0 0 v0 0 v0 0 v0 0 v0 0 v0 0 v0 0", 5, 4),
+    ("O 0 1 v2 2 1 v0 0", 5, 4),
+    ("O 0 1 v1 2 1 v2 0", 5, 5),
+    ("O 0 2 v0 0 v0 0 1 r1 2", 5, 10),
+    // Not rising, or there before.
+    ("P 0 0 1 1", 6, 5),
+    ("P 0 1 0 1 0", 6, 4),
+    ("O 0 4 v0 0 v1 0 v1 0 v0 0 0", 6, 8),
+    ("O 0 4 v0 0 v1 0 r1 1 v0 0 0", 6, 10),
+    ("O 0 0 3 v0 0 v1 0 v0 1", 6, 8),
+    ("O 0 0 2 v0 0 v0 0", 6, 7),
+    ("O 0 2 v0 0 v0 0 2 v0 0 v0 0", 6, 6),
+    ("O 0 1 v0 0 2 v0 - v0 -", 6, 9),
+    // A real name elsewhere.
+    ("O 0 2 r0 0 r1 0 1 r0 1", 7, 7),
+    ("O 0 1 v0 - 1 r0 1", 7, 8),
 ];
 
-fn known() -> Result<(), String> {
+/// The same of whole sheets: `F` lines, `T` lines, `C` between typed and untyped names; the number, the line and the field.
+const WHOLE_READINGS: &[(&str, [usize; 3])] = &[
+    ("", [2, 0, 0]),
+    ("F 2 2 2 1 0", [2, 0, 0]),
+    ("/", [3, 1, 1]),
+    ("F 0 0 0 0 0/B/", [5, 1, 5]),
+    ("F 0 0 0 1 1/B/", [5, 1, 6]),
+    ("F 0 0 0 65 65/B/", [5, 1, 5]),
+    ("F 33 33 0 1 9/B/", [5, 1, 2]),
+    ("F 32 32 257 0 0/B/", [5, 1, 4]),
+    ("F 0 0 0 1 0 0/B/", [3, 1, 7]),
+    ("F 0 0 0 1/B/", [3, 1, 6]),
+    ("S 0 0/", [4, 1, 0]),
+    ("F 0 0 0 2 0/B/", [4, 3, 0]),
+    ("F 0 0 3 1 0/T 1/T 3/B/", [5, 3, 2]),
+    ("F 0 0 3 1 0/T 1/T 1/B/", [6, 3, 2]),
+    ("F 0 0 3 2 0/B 0 1 2 0 2/B/", [5, 2, 4]),
+    ("F 0 1 2 1 0/T 0/B/C 0 0 v0 v1/", [8, 4, 5]),
+    ("F 0 1 2 1 0/T 0/B/C 0 1 v0 v1/", [5, 4, 3]),
+    ("F 0 0 0 1 0/B/O 0 1 v0 0 0/", [5, 3, 4]),
+];
+
+fn cases() -> Result<(), String> {
     for (sheet, old, house) in CASES {
         let given = answers(&as_text(sheet), Old::Rust, Wrong::Nothing);
         for (answer, expected) in given.iter().zip(&[old, house]) {
@@ -97,14 +182,79 @@ fn known() -> Result<(), String> {
             }
         }
     }
-    for (line, number) in READINGS {
-        let sheet = as_text(&format!("F 2 2 2 1 0/B/{}/", line));
-        let given = read(&sheet).err().map_or(0, |refusal| refusal.number);
-        if given != *number {
-            return Err(format!("{} is refused as {}", line, given));
+    Ok(())
+}
+
+fn readings() -> Result<(), String> {
+    let mut list: Vec<(String, [usize; 3])> = WHOLE_READINGS.iter().map(|(sheet, wanted)| (sheet.to_string(), *wanted)).collect();
+    for (line, number, field) in READINGS {
+        let place = if *number == 0 { 0 } else { 3 };
+        list.push((format!("F 2 2 2 1 0/B/{}/", line), [*number as usize, place, *field]));
+    }
+    for (sheet, wanted) in list {
+        let given = read(&as_text(&sheet)).err().map_or([0; 3], |r| [r.number as usize, r.line, r.field]);
+        if given != wanted {
+            return Err(format!("{} is refused as {:?}", sheet, given));
         }
     }
-    println!("{} cases and {} readings are met", CASES.len(), READINGS.len());
+    Ok(())
+}
+
+/// Each sheet that is made for a letter, a number and a field is refused so, and trying finds the same field of it and of every sheet
+/// at a limit.
+fn fields() -> Result<usize, String> {
+    let mut tried = 0;
+    for ((letter, number, field), sheet) in at_every_target() {
+        if refused_at(&sheet) != Some((letter, number, field)) {
+            return Err(format!("not refused as {} at field {}: {}", number, field, visible(&sheet)));
+        }
+        tried += try_field(&sheet)? as usize;
+    }
+    for sheet in boundaries().iter().filter(|sheet| sheet.len() < 1_000) {
+        tried += try_field(sheet)? as usize;
+    }
+    Ok(tried)
+}
+
+/// Holds the field of a refused line against trying; false where there is none to try.
+fn try_field(sheet: &[u8]) -> Result<bool, String> {
+    let refused = match read(sheet) {
+        Err(refused) if refused.field > 0 => refused,
+        _ => return Ok(false),
+    };
+    let lines: Vec<&[u8]> = sheet.split(|&byte| byte == b'\n').collect();
+    let mut before = lines[..refused.line - 1].join(&b'\n');
+    if refused.line > 1 {
+        before.push(b'\n');
+    }
+    // Where there are no registers, slots or names the letter itself shows that no good line can follow.
+    if refused.line > 1 && lines[0].split(|&byte| byte == b'\t').skip(1).take(3).any(|count| count == b"0") {
+        return Ok(false);
+    }
+    match by_trying(&before, lines[refused.line - 1], refused.number) {
+        Some(field) if field != refused.field => Err(format!("field {}, and by trying {}: {}", refused.field, field, visible(sheet))),
+        found => Ok(found.is_some()),
+    }
+}
+
+/// Holds the fields of generated sheets against trying.
+fn generated_fields(sheets: u64, seed: u64) -> Result<(), String> {
+    let mut tried = 0;
+    for index in 0..sheets {
+        let sheet = generate(seed, index).1;
+        tried += (sheet.len() < 1_000 && try_field(&sheet)?) as usize;
+    }
+    println!("fields of refusals: {} sheets, {} tried: 0 differences", sheets, tried);
+    Ok(())
+}
+
+/// The cases, the readings, and the fields that refusals name.
+pub fn known() -> Result<(), String> {
+    cases()?;
+    readings()?;
+    let tried = fields()?;
+    let read = READINGS.len() + WHOLE_READINGS.len();
+    println!("{} cases and {} readings are met, {} fields of refusals are those that trying finds", CASES.len(), read, tried);
     Ok(())
 }
 
@@ -117,6 +267,7 @@ pub fn run(sheets: u64, seed: u64) -> Result<(), String> {
     known()?;
     plain_and_rust(sheets, seed)?;
     itself(sheets / 10, seed)?;
+    generated_fields(sheets / 10, seed)?;
     for (name, _) in WRONGS.iter() {
         slip(name, sheets, seed)?;
     }

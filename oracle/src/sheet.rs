@@ -1,5 +1,7 @@
-//! The second reader: a sheet's bytes to its blocks and steps, or the refusal with its line. Written
-//! from document 01, one function for each refusal number.
+//! The second reader: a sheet's bytes to its blocks and steps, or the refusal with its line and its field. Written
+//! from document 01 and request A4 of document 02, one function for each refusal number.
+
+use crate::plain::Wrong;
 
 pub const SHEET_LIMIT: usize = 65_536;
 pub const REGS_LIMIT: u32 = 32;
@@ -132,10 +134,12 @@ fn step_text(step: &Step) -> String {
     }
 }
 
+/// `field` is the first that shows the fault, the letter being 1; 0 where no field does.
 #[derive(Clone, Copy, Debug, PartialEq, Eq)]
 pub struct Refusal {
     pub number: u32,
     pub line: usize,
+    pub field: usize,
 }
 
 /// A line of good form.
@@ -155,32 +159,36 @@ struct Seen {
     sheet: Sheet,
 }
 
-/// Reads a sheet. `swapped` asks for refusal 6 before 5: a slip that the self-test must find.
-pub fn read_with(bytes: &[u8], swapped: bool) -> Result<Sheet, Refusal> {
+/// Reads a sheet. `wrong` may ask for a slip of the reader.
+pub fn read_with(bytes: &[u8], wrong: Wrong) -> Result<Sheet, Refusal> {
     if bytes.is_empty() || bytes.len() > SHEET_LIMIT || bytes[bytes.len() - 1] != b'\n' {
-        return Err(Refusal { number: 2, line: 0 });
+        return Err(Refusal { number: 2, line: 0, field: 0 });
     }
     let mut seen = Seen::default();
     let mut line = 0;
     for text in bytes[..bytes.len() - 1].split(|&byte| byte == b'\n') {
         line += 1;
-        match read_line(text, &seen, swapped) {
+        match read_line(text, &seen, wrong) {
             Ok(record) => take(record, &mut seen),
-            Err(number) => return Err(Refusal { number, line }),
+            Err((number, field)) => return Err(Refusal { number, line, field }),
         }
     }
     if (seen.sheet.blocks.len() as u32) < seen.blocks {
-        return Err(Refusal { number: 4, line: line + 1 });
+        return Err(Refusal { number: 4, line: line + 1, field: 0 });
     }
     Ok(seen.sheet)
 }
 
 pub fn read(bytes: &[u8]) -> Result<Sheet, Refusal> {
-    read_with(bytes, false)
+    read_with(bytes, Wrong::Nothing)
 }
 
+/// The fields of a record that show a fault, in their order; of a fault between two fields the later one. None where there is no such
+/// fault, and 0 alone for a fault that no field shows.
+type Shown = Vec<usize>;
+
 /// The conditions on a line of good form, in their order.
-const CONDITIONS: [(u32, fn(&Record, &Seen) -> bool); 6] = [
+const CONDITIONS: [(u32, fn(&Record, &Seen) -> Shown); 6] = [
     (4, out_of_place),
     (5, beyond_limit),
     (6, repeated_or_not_ascending),
@@ -189,19 +197,18 @@ const CONDITIONS: [(u32, fn(&Record, &Seen) -> bool); 6] = [
     (9, step_too_many),
 ];
 
-/// A line's record, or the lowest number that applies to it.
-fn read_line(text: &[u8], seen: &Seen, swapped: bool) -> Result<Record, u32> {
-    let record = match form(text) {
-        Some(record) => record,
-        None => return Err(3),
-    };
+/// A line's record, or the lowest number that applies to it and the first field that shows it.
+fn read_line(text: &[u8], seen: &Seen, wrong: Wrong) -> Result<Record, (u32, usize)> {
+    let record = form(text).map_err(|field| (3, field))?;
     let mut conditions = CONDITIONS;
-    if swapped {
+    if wrong == Wrong::SwapFiveSix {
         conditions.swap(1, 2);
     }
-    for (number, applies) in conditions.iter() {
-        if applies(&record, seen) {
-            return Err(*number);
+    for (number, shown) in conditions.iter() {
+        let shown = shown(&record, seen);
+        let field = if wrong == Wrong::LastField { shown.last() } else { shown.first() };
+        if let Some(field) = field {
+            return Err((*number, *field));
         }
     }
     Ok(record)
@@ -211,16 +218,16 @@ fn read_line(text: &[u8], seen: &Seen, swapped: bool) -> Result<Record, u32> {
 pub fn broken(bytes: &[u8]) -> (String, String) {
     let mut seen = Seen::default();
     for text in bytes.split(|&byte| byte == b'\n') {
-        if let Ok(record) = read_line(text, &seen, false) {
+        if let Ok(record) = read_line(text, &seen, Wrong::Nothing) {
             take(record, &mut seen);
             continue;
         }
         let letter = String::from_utf8_lossy(&text[..text.len().min(1)]).to_string();
         let numbers: String = match form(text) {
-            None => "3".to_string(),
-            Some(record) => CONDITIONS
+            Err(_) => "3".to_string(),
+            Ok(record) => CONDITIONS
                 .iter()
-                .filter(|(_, applies)| applies(&record, &seen))
+                .filter(|(_, shown)| !shown(&record, &seen).is_empty())
                 .map(|(number, _)| number.to_string())
                 .collect(),
         };
@@ -252,7 +259,7 @@ fn take(record: Record, seen: &mut Seen) {
 /// Does an inst fall: is it smaller than the last one before it, over all lines of good form?
 pub fn falls(bytes: &[u8]) -> bool {
     let inst = |line: &[u8]| match form(line) {
-        Some(Record::Step(mut step)) => step.inst_mut().copied(),
+        Ok(Record::Step(mut step)) => step.inst_mut().copied(),
         _ => None,
     };
     let insts: Vec<u32> = bytes.split(|&byte| byte == b'\n').filter_map(inst).collect();
@@ -261,86 +268,97 @@ pub fn falls(bytes: &[u8]) -> bool {
 
 // Refusal 3: the form of a line.
 
-fn form(text: &[u8]) -> Option<Record> {
-    let fields: Vec<&[u8]> = text.split(|&byte| byte == b'\t').collect();
-    let rest = &fields[1..];
-    match fields[0] {
-        b"F" => counts(&all_numbers(rest)?),
-        b"T" => Some(Record::Reftyped(*exactly(&all_numbers(rest)?, 1)?.first()?)),
-        b"B" if rest.len() <= SUCCS_LIMIT => Some(Record::Opens(all_numbers(rest)?)),
-        b"S" => two(&all_numbers(rest)?, |slot, reg| Step::Spill { slot, reg }),
-        b"L" => two(&all_numbers(rest)?, |reg, slot| Step::Reload { reg, slot }),
-        b"M" => two(&all_numbers(rest)?, |into, from| Step::Move { into, from }),
-        b"C" => change(rest).map(Record::Step),
-        b"O" => operation(rest).map(Record::Step),
-        b"P" => safepoint(&all_numbers(rest)?).map(Record::Step),
+/// The fields of a line one after another. What is bad, missing or too many is told by its number.
+struct Fields<'a> {
+    list: Vec<&'a [u8]>,
+    read: usize,
+}
+
+impl<'a> Fields<'a> {
+    fn of(text: &'a [u8]) -> Fields<'a> {
+        Fields { list: text.split(|&byte| byte == b'\t').collect(), read: 0 }
+    }
+
+    fn more(&self) -> bool {
+        self.read < self.list.len()
+    }
+
+    fn next<T>(&mut self, form: fn(&[u8]) -> Option<T>) -> Result<T, usize> {
+        let field = self.list.get(self.read);
+        self.read += 1;
+        field.and_then(|text| form(text)).ok_or(self.read)
+    }
+
+    /// As many numbers as there are, but no more than the most.
+    fn numbers(&mut self, most: usize) -> Result<Vec<u32>, usize> {
+        let mut list = Vec::new();
+        while self.more() && list.len() < most {
+            list.push(self.next(number)?);
+        }
+        Ok(list)
+    }
+
+    /// A count, and that many pairs.
+    fn operands(&mut self) -> Result<Vec<Operand>, usize> {
+        let count = self.next(number)?;
+        let mut list = Vec::new();
+        for _ in 0..count {
+            list.push(Operand { name: self.next(name)?, reg: self.next(allocation)? });
+        }
+        Ok(list)
+    }
+}
+
+/// A line's record, or the first field that is bad, missing or too many.
+fn form(text: &[u8]) -> Result<Record, usize> {
+    let mut fields = Fields::of(text);
+    let record = match fields.next(letter)? {
+        b'F' => counts(&mut fields)?,
+        b'T' => Record::Reftyped(fields.next(number)?),
+        b'B' => Record::Opens(fields.numbers(SUCCS_LIMIT)?),
+        letter => Record::Step(step(letter, &mut fields)?),
+    };
+    if fields.more() {
+        return Err(fields.read + 1);
+    }
+    Ok(record)
+}
+
+fn counts(fields: &mut Fields) -> Result<Record, usize> {
+    Ok(Record::Counts {
+        regs: fields.next(number)?,
+        slots: fields.next(number)?,
+        vregs: fields.next(number)?,
+        blocks: fields.next(number)?,
+        entry: fields.next(number)?,
+    })
+}
+
+fn step(letter: u8, fields: &mut Fields) -> Result<Step, usize> {
+    Ok(match letter {
+        b'S' => Step::Spill { slot: fields.next(number)?, reg: fields.next(number)? },
+        b'L' => Step::Reload { reg: fields.next(number)?, slot: fields.next(number)? },
+        b'M' => Step::Move { into: fields.next(number)?, from: fields.next(number)? },
+        b'C' => Step::Change {
+            inst: fields.next(number)?,
+            slot: fields.next(number)?,
+            from: fields.next(name)?,
+            to: fields.next(name)?,
+        },
+        b'O' => Step::Op { inst: fields.next(number)?, uses: fields.operands()?, defs: fields.operands()? },
+        b'P' => Step::Safepoint { inst: fields.next(number)?, slots: fields.numbers(usize::MAX)? },
+        _ => return Err(1),
+    })
+}
+
+fn letter(field: &[u8]) -> Option<u8> {
+    match field {
+        [letter] => Some(*letter),
         _ => None,
     }
 }
 
-fn exactly<T>(list: &[T], length: usize) -> Option<&[T]> {
-    if list.len() == length {
-        Some(list)
-    } else {
-        None
-    }
-}
-
-fn counts(values: &[u32]) -> Option<Record> {
-    let values = exactly(values, 5)?;
-    Some(Record::Counts {
-        regs: values[0],
-        slots: values[1],
-        vregs: values[2],
-        blocks: values[3],
-        entry: values[4],
-    })
-}
-
-fn two(values: &[u32], make: fn(u32, u32) -> Step) -> Option<Record> {
-    let values = exactly(values, 2)?;
-    Some(Record::Step(make(values[0], values[1])))
-}
-
-fn change(rest: &[&[u8]]) -> Option<Step> {
-    let rest = exactly(rest, 4)?;
-    Some(Step::Change {
-        inst: number(rest[0])?,
-        slot: number(rest[1])?,
-        from: name(rest[2])?,
-        to: name(rest[3])?,
-    })
-}
-
-fn operation(rest: &[&[u8]]) -> Option<Step> {
-    let inst = number(rest.first()?)?;
-    let (uses, rest) = operand_list(&rest[1..])?;
-    let (defs, rest) = operand_list(rest)?;
-    exactly(rest, 0)?;
-    Some(Step::Op { inst, uses, defs })
-}
-
-/// A count, that many pairs, and the fields behind them.
-fn operand_list<'a, 'b>(fields: &'a [&'b [u8]]) -> Option<(Vec<Operand>, &'a [&'b [u8]])> {
-    let count = number(fields.first()?)? as usize;
-    let pairs = fields.get(1..1 + 2 * count)?;
-    let mut list = Vec::new();
-    for pair in pairs.chunks(2) {
-        let reg = if pair[1] == b"-" { None } else { Some(number(pair[1])?) };
-        list.push(Operand { name: name(pair[0])?, reg });
-    }
-    Some((list, &fields[1 + 2 * count..]))
-}
-
-fn safepoint(values: &[u32]) -> Option<Step> {
-    Some(Step::Safepoint { inst: *values.first()?, slots: values[1..].to_vec() })
-}
-
-fn all_numbers(fields: &[&[u8]]) -> Option<Vec<u32>> {
-    fields.iter().map(|field| number(field)).collect()
-}
-
-fn number(field: &[u8]) -> Option<u32> {
+pub fn number(field: &[u8]) -> Option<u32> {
     let leading_zero = field.len() > 1 && field[0] == b'0';
     if field.is_empty() || field.len() > 5 || leading_zero {
         return None;
@@ -351,7 +369,7 @@ fn number(field: &[u8]) -> Option<u32> {
     std::str::from_utf8(field).ok()?.parse().ok()
 }
 
-fn name(field: &[u8]) -> Option<Name> {
+pub fn name(field: &[u8]) -> Option<Name> {
     match field.first()? {
         b'r' => number(&field[1..]).map(Name::Real),
         b'v' => number(&field[1..]).map(Name::Virtual),
@@ -359,103 +377,139 @@ fn name(field: &[u8]) -> Option<Name> {
     }
 }
 
+/// A register, or `-`, which is none.
+pub fn allocation(field: &[u8]) -> Option<Option<u32>> {
+    if field == b"-" {
+        Some(None)
+    } else {
+        number(field).map(Some)
+    }
+}
+
 // Refusals 4 to 9: a record against the lines before it.
 
-fn out_of_place(record: &Record, seen: &Seen) -> bool {
+/// A fault that no field shows, where there is one.
+fn unplaced(holds: bool) -> Shown {
+    vec![0; holds as usize]
+}
+
+/// Which of the fields behind the letter are bad, by their numbers.
+fn placed(bad: &[bool]) -> Shown {
+    (0..bad.len()).filter(|&at| bad[at]).map(|at| at + 2).collect()
+}
+
+fn out_of_place(record: &Record, seen: &Seen) -> Shown {
     let opened = seen.sheet.blocks.len() as u32;
-    match record {
+    unplaced(match record {
         Record::Counts { .. } => seen.counted,
         Record::Reftyped(_) => !seen.counted || opened > 0,
         Record::Opens(_) => !seen.counted || opened == seen.blocks,
         Record::Step(_) => !seen.counted || opened == 0,
-    }
+    })
 }
 
-fn beyond_limit(record: &Record, seen: &Seen) -> bool {
+fn beyond_limit(record: &Record, seen: &Seen) -> Shown {
     match record {
-        Record::Counts { regs, slots, vregs, blocks, entry } => {
-            *regs > REGS_LIMIT
-                || *slots > SLOTS_LIMIT
-                || *vregs > VREGS_LIMIT
-                || *blocks < 1
-                || *blocks > BLOCKS_LIMIT
-                || entry >= blocks
-        }
-        Record::Reftyped(n) => *n >= seen.sheet.vregs,
-        Record::Opens(succs) => succs.iter().any(|succ| *succ >= seen.blocks),
+        Record::Counts { regs, slots, vregs, blocks, entry } => placed(&[
+            *regs > REGS_LIMIT,
+            *slots > SLOTS_LIMIT,
+            *vregs > VREGS_LIMIT,
+            *blocks < 1 || *blocks > BLOCKS_LIMIT,
+            entry >= blocks,
+        ]),
+        Record::Reftyped(n) => placed(&[*n >= seen.sheet.vregs]),
+        Record::Opens(succs) => placed(&succs.iter().map(|succ| *succ >= seen.blocks).collect::<Vec<_>>()),
         Record::Step(step) => step_beyond_limit(step, &seen.sheet),
     }
 }
 
-fn step_beyond_limit(step: &Step, sheet: &Sheet) -> bool {
+fn step_beyond_limit(step: &Step, sheet: &Sheet) -> Shown {
+    let bad_inst = |inst: u32| inst > INST_LIMIT;
     let bad_reg = |reg: u32| reg >= sheet.regs;
     let bad_slot = |slot: u32| slot >= sheet.slots;
     let bad_name = |name: Name| match name {
         Name::Real(n) => n >= sheet.regs,
         Name::Virtual(n) => n >= sheet.vregs,
     };
-    let bad_operands = |list: &[Operand]| {
-        list.len() > OPERANDS_LIMIT
-            || list.iter().any(|o| bad_name(o.name) || o.reg.map_or(false, bad_reg))
-    };
+    let bad_pair = |o: &Operand| [bad_name(o.name), o.reg.map_or(false, bad_reg)];
     match step {
-        Step::Spill { slot, reg } | Step::Reload { reg, slot } => bad_slot(*slot) || bad_reg(*reg),
-        Step::Move { into, from } => bad_reg(*into) || bad_reg(*from),
+        Step::Spill { slot, reg } => placed(&[bad_slot(*slot), bad_reg(*reg)]),
+        Step::Reload { reg, slot } => placed(&[bad_reg(*reg), bad_slot(*slot)]),
+        Step::Move { into, from } => placed(&[bad_reg(*into), bad_reg(*from)]),
         Step::Change { inst, slot, from, to } => {
-            *inst > INST_LIMIT || bad_slot(*slot) || bad_name(*from) || bad_name(*to)
+            placed(&[bad_inst(*inst), bad_slot(*slot), bad_name(*from), bad_name(*to)])
         }
         Step::Op { inst, uses, defs } => {
-            *inst > INST_LIMIT || bad_operands(uses) || bad_operands(defs)
+            let mut bad = vec![bad_inst(*inst)];
+            for list in &[uses, defs] {
+                bad.push(list.len() > OPERANDS_LIMIT);
+                bad.extend(list.iter().flat_map(|o| bad_pair(o)));
+            }
+            placed(&bad)
         }
         Step::Safepoint { inst, slots } => {
-            *inst > INST_LIMIT || slots.iter().any(|slot| bad_slot(*slot))
+            let mut bad = vec![bad_inst(*inst)];
+            bad.extend(slots.iter().map(|slot| bad_slot(*slot)));
+            placed(&bad)
         }
     }
 }
 
-fn repeated_or_not_ascending(record: &Record, seen: &Seen) -> bool {
+fn repeated_or_not_ascending(record: &Record, seen: &Seen) -> Shown {
     match record {
-        Record::Reftyped(n) => seen.sheet.reftyped.last().map_or(false, |last| n <= last),
-        Record::Step(Step::Safepoint { slots, .. }) => slots.windows(2).any(|w| w[0] >= w[1]),
-        Record::Step(Step::Op { uses, defs, .. }) => {
-            let use_names: Vec<Name> = uses.iter().map(|o| o.name).collect();
-            let def_names: Vec<Name> = defs.iter().map(|o| o.name).collect();
-            let def_regs: Vec<u32> = defs.iter().filter_map(|o| o.reg).collect();
-            repeats(&use_names) || repeats(&def_names) || repeats(&def_regs)
+        Record::Reftyped(n) => placed(&[seen.sheet.reftyped.last().map_or(false, |last| n <= last)]),
+        Record::Step(Step::Safepoint { slots, .. }) => {
+            let mut bad = vec![false];
+            bad.extend((0..slots.len()).map(|i| i > 0 && slots[i] <= slots[i - 1]));
+            placed(&bad)
         }
-        _ => false,
+        Record::Step(Step::Op { uses, defs, .. }) => {
+            let mut bad = vec![false, false];
+            for (i, o) in uses.iter().enumerate() {
+                bad.extend([uses[..i].iter().any(|before| before.name == o.name), false]);
+            }
+            bad.push(false);
+            for (i, o) in defs.iter().enumerate() {
+                bad.push(defs[..i].iter().any(|before| before.name == o.name));
+                bad.push(o.reg.is_some() && defs[..i].iter().any(|before| before.reg == o.reg));
+            }
+            placed(&bad)
+        }
+        _ => Vec::new(),
     }
 }
 
-fn repeats<T: PartialEq>(list: &[T]) -> bool {
-    (0..list.len()).any(|i| list[..i].contains(&list[i]))
-}
-
-fn real_name_elsewhere(record: &Record, _seen: &Seen) -> bool {
+fn real_name_elsewhere(record: &Record, _seen: &Seen) -> Shown {
     let elsewhere = |o: &Operand| match o.name {
         Name::Real(n) => o.reg != Some(n),
         Name::Virtual(_) => false,
     };
     match record {
         Record::Step(Step::Op { uses, defs, .. }) => {
-            uses.iter().any(elsewhere) || defs.iter().any(elsewhere)
+            let mut bad = vec![false];
+            for list in &[uses, defs] {
+                bad.push(false);
+                bad.extend(list.iter().flat_map(|o| [false, elsewhere(o)]));
+            }
+            placed(&bad)
         }
-        _ => false,
+        _ => Vec::new(),
     }
 }
 
-fn mixed_change(record: &Record, seen: &Seen) -> bool {
+fn mixed_change(record: &Record, seen: &Seen) -> Shown {
     match record {
         Record::Step(Step::Change { from, to, .. }) => {
-            seen.sheet.is_reftyped(*from) != seen.sheet.is_reftyped(*to)
+            let mixed = seen.sheet.is_reftyped(*from) != seen.sheet.is_reftyped(*to);
+            placed(&[false, false, false, mixed])
         }
-        _ => false,
+        _ => Vec::new(),
     }
 }
 
-fn step_too_many(record: &Record, seen: &Seen) -> bool {
-    match record {
+fn step_too_many(record: &Record, seen: &Seen) -> Shown {
+    unplaced(match record {
         Record::Step(_) => seen.steps == STEPS_LIMIT,
         _ => false,
-    }
+    })
 }

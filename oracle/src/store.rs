@@ -1,7 +1,8 @@
 //! The stored lists: small sheets chosen so that every feature of an answer occurs a few times.
 
+use crate::columns::at_every_target;
 use crate::damage::boundaries;
-use crate::drive::{fault_kinds, refused_as, sensitive, ORDERS};
+use crate::drive::{fault_kinds, refused_as, refused_at, sensitive, ORDERS};
 use crate::frames::{answers, read_frame, write_frame, Answers, Old, STORED};
 use crate::generate::{generate, KINDS};
 use crate::plain::{reached, Wrong, WRONGS};
@@ -67,10 +68,12 @@ pub fn store(folder: &str, sheets: u64, seed: u64) -> Result<(), String> {
 
     let mut stored = File::create(format!("{}/reader.frames", folder)).map_err(text)?;
     let mut list = boundaries();
+    list.extend(at_every_target().into_iter().map(|(_, sheet)| sheet));
     list.sort_by(|a, b| (a.len(), a).cmp(&(b.len(), b)));
     list.dedup();
     let (more, _) = choose(reader_candidates(sheets, seed));
-    list.extend(more.into_iter().filter(|sheet| !boundaries().contains(sheet)));
+    let more: Vec<Vec<u8>> = more.into_iter().filter(|sheet| !list.contains(sheet)).collect();
+    list.extend(more);
     write_reader(&mut stored, &list).map_err(text)?;
     println!("reader.frames: {} sheets", list.len());
     Ok(())
@@ -103,7 +106,7 @@ fn write_reader(file: &mut File, sheets: &[Vec<u8>]) -> std::io::Result<()> {
 fn reader_answer(sheet: &[u8]) -> Vec<u8> {
     match read(sheet) {
         Ok(_) => b"ok\n".to_vec(),
-        Err(r) => refusal(r.number, r.line),
+        Err(refused) => refusal(refused),
     }
 }
 
@@ -250,11 +253,12 @@ fn reader_candidates(sheets: u64, seed: u64) -> Vec<Candidate> {
     let mut list = Vec::new();
     for index in 0..sheets {
         let (kind, sheet) = generate(seed, index);
-        let wanted = ["damaged", "several", "limits"].contains(&KINDS[kind]);
+        let wanted = ["damaged", "several", "limits", "columns"].contains(&KINDS[kind]);
         if wanted && sheet.len() < SHORT_SHEET {
             let answer = String::from_utf8_lossy(&reader_answer(&sheet)).to_string();
             let number: String = answer.chars().take(3).collect();
-            let features = vec![(format!("{} {:?}", number, broken(&sheet)), 4)];
+            let mut features = vec![(format!("{} {:?}", number, broken(&sheet)), 4)];
+            features.extend(refused_at(&sheet).map(|target| (format!("{:?}", target), 1)));
             list.push(Candidate::of(sheet, features));
         }
     }

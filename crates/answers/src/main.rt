@@ -1,5 +1,5 @@
 // The program that the command runs: standard input is frames, each a request, which is the letter of a rule (`o` old, `h` house; `O`,
-// `H` for a sealed report) and a sheet behind it. Each is answered by one frame: the report under that rule, or `X number line`.
+// `H` for a sealed report) and a sheet behind it. Each is answered by one frame: the report under that rule, or `X number line field`.
 ghost use mathlib.Core.Path.{_≡_};
 ghost use Rattle.checker.specs.Checked.{lent};
 ghost use Rattle.answers.specs.Request.{rule-asked, Replied};

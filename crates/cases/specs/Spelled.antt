@@ -39,6 +39,6 @@ unfolding too-short too-short-before
 too-short-as-before lent = refl
 
 outcome-as-before : (rule : Rule) (sheet : Bytes) (lent : Lent)
-    → outcome rule sheet lent ≡ cond (too-short-before lent) (record { answer = Refused (record { number = 1; line = 0 }); lent = lent }) (outcome-of (answer rule sheet) lent)
+    → outcome rule sheet lent ≡ cond (too-short-before lent) (record { answer = Refused (record { number = 1; line = 0; field = 0 }); lent = lent }) (outcome-of (answer rule sheet) lent)
 unfolding outcome too-short too-short-before
 outcome-as-before rule sheet lent = refl

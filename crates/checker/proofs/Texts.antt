@@ -23,25 +23,32 @@ use Rattle.checker.specs.Lengths.{long}
 use Rattle.checker.specs.Checked.{lent, refusal-text, Checked, TextOutcome, text-outcome, Stated}
 use Rattle.checker.proofs.Refused.{read-bounded}
 
--- `X number line`, as it is written part by part
+-- `X number line field`, as it is written part by part
 module _ (refusal : Refusal) where
-  refusal-spelled : ((((letter-X ∷ []) ++ (tab ∷ digits (refusal .number))) ++ (tab ∷ digits (refusal .line))) ++ (line-feed ∷ [])) ≡ refusal-text refusal
+  refusal-spelled : (((((letter-X ∷ []) ++ (tab ∷ digits (refusal .number))) ++ (tab ∷ digits (refusal .line))) ++ (tab ∷ digits (refusal .field))) ++ (line-feed ∷ [])) ≡ refusal-text refusal
   unfolding refusal-text written behind-tabs
-  refusal-spelled = ap (λ (t : Bytes). letter-X ∷ tab ∷ t) (append-assoc (digits (refusal .number)) (tab ∷ digits (refusal .line)) (line-feed ∷ []))
+  refusal-spelled =
+      let n = digits (refusal .number) in
+      let l = tab ∷ digits (refusal .line) in
+      let f = tab ∷ digits (refusal .field) in
+      ap (λ (t : Bytes). letter-X ∷ tab ∷ t)
+      (append-assoc (n ++ l) f (line-feed ∷ []) ∙ append-assoc n l (f ++ (line-feed ∷ [])))
 
-  pub refusal-wrote : {l l′ : List ℕ} {r : ℕ} → Wrote l 0 ((((letter-X ∷ []) ++ (tab ∷ digits (refusal .number))) ++ (tab ∷ digits (refusal .line))) ++ (line-feed ∷ [])) l′ r
+  pub refusal-wrote : {l l′ : List ℕ} {r : ℕ} → Wrote l 0 (((((letter-X ∷ []) ++ (tab ∷ digits (refusal .number))) ++ (tab ∷ digits (refusal .line))) ++ (tab ∷ digits (refusal .field))) ++ (line-feed ∷ [])) l′ r
       → Wrote l 0 (refusal-text refusal) l′ r
   refusal-wrote {l} {l′} {r} w = subst (λ (t : Bytes). Wrote l 0 t l′ r) refusal-spelled w
 
-  refusal-length : length (refusal-text refusal) ≤ 14
+  refusal-length : length (refusal-text refusal) ≤ 20
   unfolding refusal-text written behind-tabs
   refusal-length =
       omega (
         arith,
-        length-append (digits (refusal .number)) (tab ∷ (digits (refusal .line) ++ (line-feed ∷ []))),
-        length-append (digits (refusal .line)) (line-feed ∷ []),
+        length-append (digits (refusal .number)) (tab ∷ (digits (refusal .line) ++ (tab ∷ (digits (refusal .field) ++ (line-feed ∷ []))))),
+        length-append (digits (refusal .line)) (tab ∷ (digits (refusal .field) ++ (line-feed ∷ []))),
+        length-append (digits (refusal .field)) (line-feed ∷ []),
         length-digits (refusal .number),
         length-digits (refusal .line),
+        length-digits (refusal .field),
       )
 
 pub laid-length : (text report : List ℕ) → length text ≤ length (laid text report)
@@ -95,7 +102,7 @@ module _ {rule : Rule} {sheet : Bytes} {before after : Lent} {r : Answer} (c : C
       not-refused f = ⊎-elim (λ h. let z : _≡_ {A = ℕ} 0 1 = cc in absurd (omega arith)) (λ h. let z : _≡_ {A = ℕ} 0 1 = cc in absurd (omega arith)) e
 
       at : (b : Bool) → too-short report-size before ≡ b → (said : Said) → answer rule sheet ≡ said → Stated report-size (written (answer rule sheet)) before after n
-      at true s said t = not-refused (answer-told (record { answer = Refused (record { number = 1; line = 0 }); lent = before }) (rw s) .0)
+      at true s said t = not-refused (answer-told (record { answer = Refused (record { number = 1; line = 0; field = 0 }); lent = before }) (rw s) .0)
       at false s (accepted text) t =
           let p = answer-told (outcome-of (accepted text) before) (rw (s, t)) in
           rw t (text-left {text = text} s (⊎-elim (λ h. (cc)) (λ h. let z : _≡_ {A = ℕ} 0 1 = cc in absurd (omega arith)) e) (p .1))
@@ -110,7 +117,7 @@ module _ {rule : Rule} {sheet : Bytes} {before after : Lent} {r : Answer} (c : C
   texted-short refusal e one = at (too-short report-size before) refl (answer rule sheet) refl
     where
       at : (b : Bool) → too-short report-size before ≡ b → (said : Said) → answer rule sheet ≡ said → Stated report-size (written (answer rule sheet)) before after 0
-      at true s said t = let p = answer-told (record { answer = Refused (record { number = 1; line = 0 }); lent = before }) (rw s) in rw (p .1) (short-outcome report-size (written (answer rule sheet)) before s)
+      at true s said t = let p = answer-told (record { answer = Refused (record { number = 1; line = 0; field = 0 }); lent = before }) (rw s) in rw (p .1) (short-outcome report-size (written (answer rule sheet)) before s)
       at false s (accepted text) t = let p = answer-told (outcome-of (accepted text) before) (rw (s, t)) .0 in let z : _≡_ {A = ℕ} 0 1 = cc in absurd (omega arith)
       at false s (faulty text) t = let p = answer-told (outcome-of (faulty text) before) (rw (s, t)) .0 in let z : _≡_ {A = ℕ} 0 1 = cc in absurd (omega arith)
       at false s (turned-away q) t =
@@ -131,8 +138,8 @@ module _ {rule : Rule} {sheet : Bytes} {before after : Lent} {r : Answer} (c : C
       where
         at : (b : Bool) → too-short report-size before ≡ b → (said : Said) → answer rule sheet ≡ said → Turned
         at true s said t =
-            let p = answer-told (record { answer = Refused (record { number = 1; line = 0 }); lent = before }) (rw s) .0 in
-            let z : _≡_ {A = Refusal} refusal (record { number = 1; line = 0 }) = cc in
+            let p = answer-told (record { answer = Refused (record { number = 1; line = 0; field = 0 }); lent = before }) (rw s) .0 in
+            let z : _≡_ {A = Refusal} refusal (record { number = 1; line = 0; field = 0 }) = cc in
             absurd (other (ap (λ (x : Refusal). x .number) z))
         at false s (accepted text) t = let p = answer-told (outcome-of (accepted text) before) (rw (s, t)) .0 in let z : _≡_ {A = ℕ} 0 1 = cc in absurd (omega arith)
         at false s (faulty text) t = let p = answer-told (outcome-of (faulty text) before) (rw (s, t)) .0 in let z : _≡_ {A = ℕ} 0 1 = cc in absurd (omega arith)
@@ -150,7 +157,7 @@ module _ {rule : Rule} {sheet : Bytes} {before after : Lent} {r : Answer} (c : C
     unfolding refusal-text
     texted-refusal {report} {n} w =
         let t = turned in
-        let short : length (refusal-text refusal) ≤ 14 = refusal-length refusal in
+        let short : length (refusal-text refusal) ≤ 20 = refusal-length refusal in
         let big = room in
         let long : n ≡ length (refusal-text refusal) = omega (arith, w .next) in
         let left : lent report (after .words) (after .queue) ≡ record { report = laid (refusal-text refusal) (before .report); words = zeros (before .words); queue = zeros (before .queue) } =

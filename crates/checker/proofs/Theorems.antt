@@ -2,7 +2,7 @@
 -- that both meet a promise on the same input are equal, buffers included. Demand 3 for `check`, for `itanropen_check` and for the
 -- text that `answer_text` leaves and `regcheck` writes: accepted under the house rule exactly when the sheet is read and the
 -- acceptance sentence holds of it; then its two programs read equal values at every use. And for every sheet that is read, accepted
--- or not, the report is of states that are the meet over all walks, and it is well formed.
+-- or not, the report is of states that are the meet over all walks, and it is well formed; a refusal's field is that of its line.
 use mathlib.Core.Path.{_≡_, refl, sym, ap, _∙_, subst}
 use mathlib.Core.Logic.{_↔_, _⊎_, inl, inr, ⊎-map, ⊎-elim}
 use mathlib.Core.Bool.{Bool, true, false}
@@ -12,11 +12,11 @@ use mathlib.Core.List.{List, [], _∷_}
 use lib.ListN.{length, take, drop}
 use lib.Seq.{take-at}
 use Rattle.lists.specs.Split.{by-equal}
-use Rattle.paper.specs.Text.{Bytes}
+use Rattle.paper.specs.Text.{Bytes, lines}
 use Rattle.paper.specs.Sheet.{Sheet}
 use Rattle.paper.specs.Limits.{report-size}
 use Rattle.paper.specs.Runs.{visit-bound, EndsAfter}
-use Rattle.paper.specs.Refusals.{Reading, loaded, refused, read}
+use Rattle.paper.specs.Refusals.{names-field, Reading, loaded, refused, read}
 use Rattle.paper.specs.Report.{Line, find-errors, first-list, missing-allocations, faults, report-text}
 use Rattle.paper.specs.Walks.{Acceptance}
 use Rattle.paper.specs.Comparison.{bad-line}
@@ -28,6 +28,7 @@ use Rattle.paper.specs.declared.Answer.{Answer}
 use Rattle.paper.specs.declared.Answer.the-variants.{Accepted, Faulty, Refused}
 use Rattle.walks.specs.Theorems.{ReadSheet, read-sheet, Acceptable, AcceptedBytes, acceptable, accepted-bytes, bytes-acceptance}
 use Rattle.compare.specs.Spelled.{report-well-formed}
+use Rattle.columns.specs.Theorems.{Located, unlocated, read-located}
 use Rattle.checker.specs.Checked.{Checked, TextOutcome, Stated, verdict-of, rule-of, Exported}
 use Rattle.checker.specs.declared.Verdict.{Verdict}
 use Rattle.checker.proofs.Laws.{number-0, number-other}
@@ -60,7 +61,7 @@ outcome-accepted rule sheet before n e = at (too-short report-size before) refl 
     told o f = e ∙ ap (λ (x : Outcome). x .answer) f
 
     at : (b : Bool) → too-short report-size before ≡ b → (said : Said) → answer rule sheet ≡ said → (text : Bytes) × (answer rule sheet ≡ accepted text)
-    at true s said t = let p = told (record { answer = Refused (record { number = 1; line = 0 }); lent = before }) (rw s) in let z : _≡_ {A = ℕ} 0 1 = cc in absurd (omega arith)
+    at true s said t = let p = told (record { answer = Refused (record { number = 1; line = 0; field = 0 }); lent = before }) (rw s) in let z : _≡_ {A = ℕ} 0 1 = cc in absurd (omega arith)
     at false s (accepted text) t = (text, t)
     at false s (faulty text) t = let p = told (outcome-of (faulty text) before) (rw (s, t)) in let z : _≡_ {A = ℕ} 0 1 = cc in absurd (omega arith)
     at false s (turned-away refusal) t = let p = told (outcome-of (turned-away refusal) before) (rw (s, t)) in let z : _≡_ {A = ℕ} 0 1 = cc in absurd (omega arith)
@@ -153,7 +154,7 @@ unfolding outcome outcome-of answer said-after answer-of
 outcome-reported rule sheet before given = at (too-short report-size before) refl (read sheet) refl
   where
     at : (b : Bool) → too-short report-size before ≡ b → (o : Reading) → read sheet ≡ o → ReportOf rule sheet before ((outcome rule sheet before) .lent)
-    at true s o h = absurd (given (record { number = 1; line = 0 }) (rw s))
+    at true s o h = absurd (given (record { number = 1; line = 0; field = 0 }) (rw s))
     at false s (refused refusal) h = absurd (given refusal (rw (s, h)))
     at false s (loaded S) h = record {
       sheet = S;
@@ -204,7 +205,7 @@ outcome-well-formed rule sheet before n e = at (too-short report-size before) re
         → bad-line (take n ((outcome rule sheet before) .lent .report)) ≡ 0
     at true s said t =
         ⊎-elim (λ h. let z : _≡_ {A = ℕ} 0 1 = cc in absurd (omega arith)) (λ h. let z : _≡_ {A = ℕ} 0 1 = cc in absurd (omega arith))
-        (told (record { answer = Refused (record { number = 1; line = 0 }); lent = before }) (rw s))
+        (told (record { answer = Refused (record { number = 1; line = 0; field = 0 }); lent = before }) (rw s))
     at false s (accepted text) t =
         let p = told (outcome-of (accepted text) before) (rw (s, t)) in
         let k : length text ≡ n = ⊎-elim (λ h. (cc)) (λ h. let z : _≡_ {A = ℕ} 0 1 = cc in absurd (omega arith)) p in
@@ -241,3 +242,31 @@ export-well-formed {rule} {sheet} {before} {after} {r} c given = at ((outcome (r
     at (Accepted n) t = left n (ap (λ (v : Verdict). v .length) (is (Accepted n) t)) (outcome-well-formed (rule-of rule) sheet before n (inl t))
     at (Faulty n) t = left n (ap (λ (v : Verdict). v .length) (is (Faulty n) t)) (outcome-well-formed (rule-of rule) sheet before n (inr t))
     at (Refused refusal) t = absurd (given (ap (λ (v : Verdict). v .answer) (is (Refused refusal) t)))
+
+-- Document 02, A4: the field of a refusal. Whatever sheet `check` refuses, the field is other than 0 exactly where the number names
+-- one; then it is that of the bad line, beside what the lines before it say.
+
+outcome-located : (rule : Rule) (sheet : Bytes) (before : Lent) (refusal : Refusal) → (outcome rule sheet before) .answer ≡ Refused refusal → Located (lines sheet) 1 refusal
+unfolding outcome outcome-of answer said-after answer-of said-of names-field
+outcome-located rule sheet before refusal e = at (too-short report-size before) refl (read sheet) refl
+  where
+    told : (o : Outcome) → outcome rule sheet before ≡ o → o .answer ≡ Refused refusal
+    told o f = sym (ap (λ (x : Outcome). x .answer) f) ∙ e
+
+    one : (r : Refusal) → Refused r ≡ Refused refusal → Located (lines sheet) 1 r → Located (lines sheet) 1 refusal
+    one r f l = let z : r ≡ refusal = cc in subst (Located (lines sheet) 1) z l
+
+    said : (ls : List Line) → answer-of (said-of rule ls) ≡ Refused refusal → Located (lines sheet) 1 refusal
+    said [] f = let z : _≡_ {A = ℕ} 0 1 = cc in absurd (omega arith)
+    said (l ∷ ls) f = let z : _≡_ {A = ℕ} 0 1 = cc in absurd (omega arith)
+
+    at : (b : Bool) → too-short report-size before ≡ b → (o : Reading) → read sheet ≡ o → Located (lines sheet) 1 refusal
+    at true s o h =
+        let short : Refusal = record { number = 1; line = 0; field = 0 } in
+        one short (told (record { answer = Refused short; lent = before }) (rw s)) (unlocated (lines sheet) 1 1 0 refl)
+    at false s (refused r) h = one r (told (outcome-of (turned-away r) before) (rw (s, h))) (read-located sheet r h)
+    at false s (loaded S) h = said (faults rule S) (told (outcome-of (said-of rule (faults rule S)) before) (rw (s, h)))
+
+pub check-located : {rule : Rule} {sheet : Bytes} {before after : Lent} {refusal : Refusal} → Checked rule sheet before after (Refused refusal)
+    → Located (lines sheet) 1 refusal
+check-located {rule} {sheet} {before} {after} {refusal} c = outcome-located rule sheet before refusal (sym (ap (λ (o : Outcome). o .answer) (c .whole)))

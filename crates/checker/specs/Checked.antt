@@ -20,7 +20,7 @@ use Rattle.checker.specs.declared.Verdict.{Verdict}
 abbrev pub Few : List ℕ → Type 0
 Few words = step-count ((sheet-of words) .body) ≤ max-steps
 
--- `X number line`
+-- `X number line field`
 unfoldable pub refusal-text : Refusal → Bytes
 refusal-text refusal = written (turned-away refusal)
 
@@ -29,7 +29,7 @@ lent report words queue = record { report = report; words = words; queue = queue
 
 -- the numbers of a refusal and of an answer keep their bounds
 abbrev pub RefusalWithin : Refusal → Type 0
-RefusalWithin refusal = (refusal .number ≤ 9) × (refusal .line ≤ max-sheet + 1)
+RefusalWithin refusal = (refusal .number ≤ 9) × (refusal .line ≤ max-sheet + 1) × (refusal .field ≤ max-sheet + 2)
 
 abbrev pub AnswerWithin : Answer → Type 0
 AnswerWithin (Accepted n) = n ≤ report-size
@@ -66,11 +66,11 @@ pub record Stated (size : ℕ) (text : Bytes) (before after : Lent) (r : ℕ) : 
   pub whole : _≡_ {A = TextOutcome} (record { text-length = r; buffers = after }) (text-outcome size text before)
   pub fits : r ≤ length (after .report)
 
--- over the C interface: 0 accepted, 1 faulty, 2 refused; the report's length; the refusal's number and line
+-- over the C interface: 0 accepted, 1 faulty, 2 refused; the report's length; the refusal's number, line and field
 unfoldable pub verdict-of : Answer → Verdict
-verdict-of (Accepted n) = record { answer = 0; number = 0; length = n; line = 0 }
-verdict-of (Faulty n) = record { answer = 1; number = 0; length = n; line = 0 }
-verdict-of (Refused refusal) = record { answer = 2; number = refusal .number; length = 0; line = refusal .line }
+verdict-of (Accepted n) = record { answer = 0; number = 0; length = n; line = 0; field = 0 }
+verdict-of (Faulty n) = record { answer = 1; number = 0; length = n; line = 0; field = 0 }
+verdict-of (Refused refusal) = record { answer = 2; number = refusal .number; length = 0; line = refusal .line; field = refusal .field }
 
 -- the rule by its number over the C interface: 0 alone is the old rule
 unfoldable pub rule-of : ℕ → Rule

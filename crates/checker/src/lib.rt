@@ -18,13 +18,14 @@ use paper::Rule;
 use paper::TOO_SHORT;
 use sheet::Loading;
 
-// An answer over the C interface: 0 accepted, 1 faulty, 2 refused; the report's length; the refusal's number and line.
+// An answer over the C interface: 0 accepted, 1 faulty, 2 refused; the report's length; the refusal's number, line and field.
 #[repr(C)]
 pub struct Verdict {
     pub answer: u8,
     pub number: u8,
     pub length: usize,
     pub line: usize,
+    pub field: usize,
 }
 
 // The faults of loaded words, written to the start of the lent report.
@@ -86,6 +87,7 @@ pub fn check(
         return Answer::Refused(Refusal {
             number: TOO_SHORT,
             line: 0,
+            field: 0,
         });
     }
     let said = answer(rule, sheet, report, words, queue);
@@ -94,7 +96,7 @@ pub fn check(
     said
 }
 
-// `X number line` at the start of the lent report: its length.
+// `X number line field` at the start of the lent report: its length.
 fn write_refusal(report: &mut [u8], refusal: Refusal) -> usize
     requires { ⌜ RefusalWithin refusal × (report-size ≤ length (now report)) ⌝ }
     ensures { λ r. ⌜ Wrote (now (report .entry)) 0 (refusal-text refusal) (now (report .exit)) r ⌝ }
@@ -102,10 +104,11 @@ fn write_refusal(report: &mut [u8], refusal: Refusal) -> usize
     let a = fields::write_byte(report, 0, b'X');
     let b = fields::write_before_number(report, a, b'\t', refusal.number as u32);
     let c = fields::write_before_number(report, b, b'\t', refusal.line as u32);
-    fields::write_byte(report, c, b'\n')
+    let d = fields::write_before_number(report, c, b'\t', refusal.field as u32);
+    fields::write_byte(report, d, b'\n')
 }
 
-// What a program writes of the answer, at the start of the lent report: the report, or `X number line`. Its length is
+// What a program writes of the answer, at the start of the lent report: the report, or `X number line field`. Its length is
 // returned; where refusal 1 is given nothing changes, and the length is 0.
 pub fn answer_text(
     rule: Rule,
@@ -139,18 +142,21 @@ pub fn verdict_of(said: Answer) -> Verdict
             number: 0,
             length: length,
             line: 0,
+            field: 0,
         },
         Answer::Faulty(length) => Verdict {
             answer: 1,
             number: 0,
             length: length,
             line: 0,
+            field: 0,
         },
         Answer::Refused(refusal) => Verdict {
             answer: 2,
             number: refusal.number,
             length: 0,
             line: refusal.line,
+            field: refusal.field,
         },
     }
 }

@@ -16,7 +16,7 @@ use Rattle.paper.specs.declared.Refusal.{Refusal}
 use Rattle.paper.specs.declared.Answer.{Answer}
 use Rattle.paper.specs.declared.Answer.the-variants.{Accepted, Faulty, Refused}
 
--- one of three answers: "Accepted and faulty come with the report's length", here with its bytes; refused with its number and line
+-- one of three answers: "Accepted and faulty come with the report's length", here with its bytes; refused with its number, line and field
 pub data Said : Type 0 where
   accepted : (text : Bytes) → Said
   faulty : (text : Bytes) → Said
@@ -35,14 +35,14 @@ said-after rule (loaded S) = said-of rule (faults rule S)
 unfoldable pub answer : Rule → Bytes → Said
 answer rule sheet = said-after rule (read sheet)
 
--- what a program writes: the report, or `X number line`
+-- what a program writes: the report, or `X number line field`
 abbrev pub letter-X : ℕ
 letter-X = code "X"
 
 unfoldable pub written : Said → Bytes
 written (accepted text) = text
 written (faulty text) = text
-written (turned-away refusal) = letter-X ∷ behind-tabs (digits (refusal .number) ∷ digits (refusal .line) ∷ [])
+written (turned-away refusal) = letter-X ∷ behind-tabs (digits (refusal .number) ∷ digits (refusal .line) ∷ digits (refusal .field) ∷ [])
 
 -- the buffers that are lent to a call
 pub record Lent : Type 0 where
@@ -85,4 +85,4 @@ outcome-of said lent =
 
 -- "First 1"; "Refusal 1 changes nothing"
 unfoldable pub outcome : Rule → Bytes → Lent → Outcome
-outcome rule sheet lent = cond (too-short report-size lent) (record { answer = Refused (record { number = 1; line = 0 }); lent = lent }) (outcome-of (answer rule sheet) lent)
+outcome rule sheet lent = cond (too-short report-size lent) (record { answer = Refused (record { number = 1; line = 0; field = 0 }); lent = lent }) (outcome-of (answer rule sheet) lent)

@@ -7,7 +7,7 @@ use mathlib.Core.Option.{Option, none, some, Option·map}
 use Prim.Native.Nat.{ℕ, suc, zero, _+_, _-_}
 use native.Mathlib.Decide.{ℕ-discrete}
 use lib.Dec.{eqb, leb, ltb}
-use lib.ListN.{length, getD}
+use lib.ListN.{length, getD, take}
 use Rattle.paper.specs.Text.{Bytes, line-feed, hyphen, lines, fields, number-of, Name, real, virtual, name-same, name-of}
 use Rattle.paper.specs.Sheet.{Operand, Step, spill, reload, move, change, operation, safepoint, Block, Sheet, reference-typed}
 use Rattle.paper.specs.Cells.{pick}
@@ -303,6 +303,136 @@ conditions so-far r =
     ∷ record { number = 9; holds = step-too-many S r }
     ∷ []
 
+-- Document 02, A4: "Every refusal of kinds 3 and 5 to 8 now also names the field, the letter being 1, that is the first to show the
+-- fault; for a wrong number of fields, the first one missing or too many; for a fault between two fields, the later. Other refusals
+-- give field 0." Below, `number` is the refusal's: fields are counted as long as each, beside those before it, shows nothing of it.
+
+-- one more than what follows, where the next field is read and passes the test; else 0: it is missing, or it shows the fault
+unfoldable pub onward : {A : Type 0} → (A → Bool) → (A → List Bytes → ℕ) → Option (Read A) → ℕ
+onward test more none = 0
+onward test more (some x) = cond (test (x .value)) (suc (more (x .value) (x .rest))) 0
+
+unfoldable pub passing : {A : Type 0} → (Bytes → Option A) → (A → Bool) → List Bytes → (A → List Bytes → ℕ) → ℕ
+passing read test fs more = onward test more (next read fs)
+
+-- 5 holds a value against its limit
+unfoldable pub within : (number limit : ℕ) → ℕ → Bool
+within number limit n = cond (eqb number 5) (ltb n limit) true
+
+unfoldable pub name-within : ℕ → Sheet → Name → Bool
+name-within number S name = cond (eqb number 5) (not (name-beyond S name)) true
+
+unfoldable pub reg-within : ℕ → Sheet → Option ℕ → Bool
+reg-within number S reg = cond (eqb number 5) (not (reg-beyond S reg)) true
+
+-- 6: a slot is held against the one before it
+unfoldable pub rising : (number least : ℕ) → ℕ → Bool
+rising number least n = cond (eqb number 6) (leb least n) true
+
+-- 6: an operand's name is held against those before it, and a def's register too (`-` is no register)
+unfoldable pub same-name : Name → Operand → Bool
+same-name name u = pick (name-same (u .name) name) true false
+
+unfoldable pub same-reg : Option ℕ → Operand → Bool
+same-reg none u = false
+same-reg (some r) u = is-reg r (u .reg)
+
+unfoldable pub new-name : ℕ → List Operand → Name → Bool
+new-name number earlier name = cond (eqb number 6) (not (any (same-name name) earlier)) true
+
+unfoldable pub new-reg : (number : ℕ) (defs : Bool) → List Operand → Option ℕ → Bool
+new-reg number defs earlier reg = cond (eqb number 6 && defs) (not (any (same-reg reg) earlier)) true
+
+-- 7: a register is held against its name
+unfoldable pub at-home : ℕ → Name → Option ℕ → Bool
+at-home number name reg = cond (eqb number 7) (not (elsewhere name reg)) true
+
+-- all fields that are left, each a number; of slots, `least` is the least that may come next
+unfoldable pub numbers-passing : (number limit least : ℕ) → List Bytes → ℕ
+numbers-passing number limit least [] = 0
+numbers-passing number limit least (field ∷ fs) =
+    passing number-of (λ n. within number limit n && rising number least n) (field ∷ fs) λ n rest. numbers-passing number limit (suc n) fs
+
+-- `F regs slots vregs blocks entry`
+unfoldable pub function-passing : ℕ → List Bytes → ℕ
+function-passing number fs =
+    passing number-of (within number (suc max-regs)) fs λ regs fs.
+    passing number-of (within number (suc max-slots)) fs λ slots fs.
+    passing number-of (within number (suc max-vregs)) fs λ vregs fs.
+    passing number-of (λ blocks. within number (suc max-blocks) blocks && within number blocks 0) fs λ blocks fs.
+    passing number-of (within number blocks) fs λ entry fs. 0
+
+-- `T n`: out of order it is its number that shows it
+unfoldable pub typed-passing : ℕ → Sheet → List Bytes → ℕ
+typed-passing number S fs = passing number-of (λ n. within number (S .vregs) n && not (eqb number 6)) fs λ n fs. 0
+
+-- `B succ..`
+unfoldable pub block-passing : ℕ → Sheet → List Bytes → ℕ
+block-passing number S fs = numbers-passing number (S .blocks) 0 (take max-succs fs)
+
+-- `S slot reg`, `L reg slot`, `M into from`, each number with its limit
+unfoldable pub pair-passing : (number first second : ℕ) → List Bytes → ℕ
+pair-passing number first second fs = passing number-of (within number first) fs λ a fs. passing number-of (within number second) fs λ b fs. 0
+
+-- `C inst slot from to`: 8 is a fault between the two names
+unfoldable pub change-passing : ℕ → Sheet → List Bytes → ℕ
+change-passing number S fs =
+    passing number-of (within number (suc max-inst)) fs λ inst fs.
+    passing number-of (within number (S .slots)) fs λ slot fs.
+    passing name-of (name-within number S) fs λ from fs.
+    passing name-of (λ to. name-within number S to && not (eqb number 8)) fs λ to fs. 0
+
+-- `(name reg)*n`, and what follows it
+unfoldable pub operands-passing : ℕ → Sheet → (defs : Bool) → ℕ → List Operand → List Bytes → (List Bytes → ℕ) → ℕ
+operands-passing number S defs zero earlier fs more = more fs
+operands-passing number S defs (suc n) earlier fs more =
+    passing name-of (λ name. name-within number S name && new-name number earlier name) fs λ name fs.
+    passing allocation-of (λ reg. reg-within number S reg && (new-reg number defs earlier reg && at-home number name reg)) fs λ reg fs.
+    operands-passing number S defs n (earlier ++ (record { name = name; reg = reg } ∷ [])) fs more
+
+-- `n (name reg)*n`
+unfoldable pub group-passing : ℕ → Sheet → (defs : Bool) → List Bytes → (List Bytes → ℕ) → ℕ
+group-passing number S defs fs more =
+    passing number-of (within number (suc max-operands)) fs λ n fs. operands-passing number S defs n [] fs more
+
+-- `O inst n (name reg)*n m (name reg)*m`
+unfoldable pub operation-passing : ℕ → Sheet → List Bytes → ℕ
+operation-passing number S fs =
+    passing number-of (within number (suc max-inst)) fs λ inst fs.
+    group-passing number S false fs λ fs.
+    group-passing number S true fs λ fs. 0
+
+-- `P inst slot..`
+unfoldable pub safepoint-passing : ℕ → Sheet → List Bytes → ℕ
+safepoint-passing number S fs =
+    passing number-of (within number (suc max-inst)) fs λ inst fs. numbers-passing number (S .slots) 0 fs
+
+-- the first field that does not pass, the letter being 1; an unknown letter shows it itself
+unfoldable pub field-by-letter : ℕ → Sheet → ℕ → List Bytes → ℕ
+field-by-letter number S letter fs =
+    -- F T B S L M C O P
+    cond (eqb letter 70) (2 + function-passing number fs)
+    (cond (eqb letter 84) (2 + typed-passing number S fs)
+    (cond (eqb letter 66) (2 + block-passing number S fs)
+    (cond (eqb letter 83) (2 + pair-passing number (S .slots) (S .regs) fs)
+    (cond (eqb letter 76) (2 + pair-passing number (S .regs) (S .slots) fs)
+    (cond (eqb letter 77) (2 + pair-passing number (S .regs) (S .regs) fs)
+    (cond (eqb letter 67) (2 + change-passing number S fs)
+    (cond (eqb letter 79) (2 + operation-passing number S fs)
+    (cond (eqb letter 80) (2 + safepoint-passing number S fs) 1))))))))
+
+unfoldable pub field-shown : ℕ → Sheet → List Bytes → ℕ
+field-shown number S [] = 1
+field-shown number S (letter ∷ fs) = field-by-letter number S (one-byte letter) fs
+
+-- "kinds 3 and 5 to 8"
+unfoldable pub names-field : ℕ → Bool
+names-field number = eqb number 3 || (leb 5 number && leb number 8)
+
+-- "Other refusals give field 0."
+unfoldable pub field-of : ℕ → Sheet → List Bytes → ℕ
+field-of number S fs = cond (names-field number) (field-shown number S fs) 0
+
 -- a step more at the end of the last block
 unfoldable pub add-step : Step → List Block → List Block
 add-step x [] = []
@@ -351,22 +481,23 @@ read-line so-far line = read-record so-far (record-of (fields line))
 
 -- "or the sheet ends with too few `B` (line: last + 1)"
 unfoldable pub read-end : ℕ → Option Sheet → Reading
-read-end line none = refused (record { number = 4; line = line })
-read-end line (some S) = cond (ltb (length (S .body)) (S .blocks)) (refused (record { number = 4; line = line })) (loaded S)
+read-end line none = refused (record { number = 4; line = line; field = 0 })
+read-end line (some S) = cond (ltb (length (S .body)) (S .blocks)) (refused (record { number = 4; line = line; field = 0 })) (loaded S)
 
--- a bad line's refusal, or what follows a good one
-unfoldable pub carry-on : ℕ → Lined → (Sheet → Reading) → Reading
-carry-on line (good S) more = more S
-carry-on line (bad number) more = refused (record { number = number; line = line })
+-- a bad line's refusal, with the field that its number names, or what follows a good one
+unfoldable pub carry-on : ℕ → (ℕ → ℕ) → Lined → (Sheet → Reading) → Reading
+carry-on line field (good S) more = more S
+carry-on line field (bad number) more = refused (record { number = number; line = line; field = field number })
 
 -- "then the first bad line"
 unfoldable pub read-lines : ℕ → Option Sheet → List Bytes → Reading
 read-lines line so-far [] = read-end line so-far
-read-lines line so-far (l ∷ ls) = carry-on line (read-line so-far l) (λ S. read-lines (suc line) (some S) ls)
+read-lines line so-far (l ∷ ls) =
+    carry-on line (λ number. field-of number (so-far-of so-far) (fields l)) (read-line so-far l) (λ S. read-lines (suc line) (some S) ls)
 
 -- 2: "sheet empty, too long, or its last byte is not LF"
 unfoldable pub no-text : Bytes → Bool
 no-text sheet = empty sheet || (ltb max-sheet (length sheet) || not (eqb (getD sheet (length sheet - 1) 0) line-feed))
 
 unfoldable pub read : Bytes → Reading
-read sheet = cond (no-text sheet) (refused (record { number = 2; line = 0 })) (read-lines 1 none (lines sheet))
+read sheet = cond (no-text sheet) (refused (record { number = 2; line = 0; field = 0 })) (read-lines 1 none (lines sheet))

@@ -100,5 +100,5 @@ sealed-said (turned-away refusal) = turned-away refusal
 -- "The sealed form needs 11 bytes more of report buffer"; all else as without a seal
 unfoldable pub sealed-outcome : Rule → Bytes → Lent → Outcome
 sealed-outcome rule sheet lent =
-    cond (too-short sealed-size lent) (record { answer = Refused (record { number = 1; line = 0 }); lent = lent })
+    cond (too-short sealed-size lent) (record { answer = Refused (record { number = 1; line = 0; field = 0 }); lent = lent })
     (outcome-of (sealed-said (answer rule sheet)) lent)

@@ -26,10 +26,12 @@ pub const TYPES_DIFFER: u8 = 8;
 
 pub const STEP_TOO_MANY: u8 = 9;
 
-// Why a sheet is turned away: the refusal's number, and the line that it is given at, 0 where it is of no line.
+// Why a sheet is turned away: the refusal's number, the line that it is given at, 0 where it is of no line, and the line's first field
+// to show it, 0 where the number names none.
 pub struct Refusal {
     pub number: u8,
     pub line: usize,
+    pub field: usize,
 }
 
 // What is said of a sheet: accepted or faulty, with the report's length; or refused.

@@ -37,7 +37,7 @@ use paper::TYPES_DIFFER;
 // A name and an allocation are read into one number each: from here on a real name, and no register.
 const REAL: u32 = 100000;
 
-const NO_ALLOCATION: u32 = 100000;
+pub const NO_ALLOCATION: u32 = 100000;
 // One more than the largest number of a name.
 const NAMES: u32 = 200000;
 
@@ -197,7 +197,7 @@ pub enum Slots {
 }
 
 // The next field of the line, as a number.
-fn number_behind(s: &[u8], at: usize) -> Number
+pub fn number_behind(s: &[u8], at: usize) -> Number
     requires { ⌜ Behind (now s) at ⌝ }
     ensures { λ r. ⌜ NumberBehind (now (s .entry)) at r ⌝ }
 {
@@ -208,7 +208,7 @@ fn number_behind(s: &[u8], at: usize) -> Number
 }
 
 // The next field as a name in one number: that of a virtual name, and 100,000 more for a real one.
-fn name_behind(s: &[u8], at: usize) -> Number
+pub fn name_behind(s: &[u8], at: usize) -> Number
     requires { ⌜ Behind (now s) at ⌝ }
     ensures { λ r. ⌜ NameBehind (now (s .entry)) at r ⌝ }
 {
@@ -226,7 +226,7 @@ fn name_behind(s: &[u8], at: usize) -> Number
 }
 
 // The next field as an allocation in one number: the register's, or 100,000 for none.
-fn allocation_behind(s: &[u8], at: usize) -> Number
+pub fn allocation_behind(s: &[u8], at: usize) -> Number
     requires { ⌜ Behind (now s) at ⌝ }
     ensures { λ r. ⌜ AllocationBehind (now (s .entry)) at r ⌝ }
 {
@@ -439,7 +439,7 @@ pub fn pair_line(s: &[u8], at: usize, place: Place, first: u32, second: u32) -> 
 }
 
 // Is the name's number beyond `F`'s count?
-fn name_beyond(name: u32, counts: Counts) -> bool
+pub fn name_beyond(name: u32, counts: Counts) -> bool
     ensures { λ r. ⌜ r ≡ name-beyond (counted counts) (name-of-code name) ⌝ }
 {
     if name < REAL {
@@ -664,7 +664,7 @@ fn any_elsewhere(g: Operands) -> bool
     false
 }
 
-fn is_elsewhere(name: u32, register: u32) -> bool
+pub fn is_elsewhere(name: u32, register: u32) -> bool
     ensures { λ r. ⌜ r ≡ elsewhere (name-of-code name) (register-of-code register) ⌝ }
 {
     if name < REAL {

@@ -1,4 +1,4 @@
-// Standard input to standard output: the house report of the sheet, or `X number line` for a refusal.
+// Standard input to standard output: the house report of the sheet, or `X number line field` for a refusal.
 ghost use Prim.Native.Nat.{_≤_};
 ghost use lib.ListN.{length};
 use layout::QUEUE_SIZE;

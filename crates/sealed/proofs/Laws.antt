@@ -64,7 +64,7 @@ module _ (report words queue : List ℕ) where
 
 -- refusal 1 changes nothing
 pub turned-short : (rule : Rule) (sheet : Bytes) (before : Lent) → too-short sealed-size before ≡ true
-    → CheckedSealed rule sheet before before (Refused (record { number = 1; line = 0 }))
+    → CheckedSealed rule sheet before before (Refused (record { number = 1; line = 0; field = 0 }))
 unfolding sealed-outcome
 turned-short rule sheet before e = record { whole = rw e; inside = tt }
 

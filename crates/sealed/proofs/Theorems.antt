@@ -79,7 +79,7 @@ module _ {rule : Rule} {sheet : Bytes} {before after : Lent} where
       at : (b : Bool) → too-short sealed-size before ≡ b → (said : Said) → answer rule sheet ≡ said
           → (Told rule before n (after .report)) × ((text : Bytes) × (answer rule sheet ≡ accepted text))
       at true s said t =
-          let w = ap (λ (x : Outcome). x .answer) (told (record { answer = Refused (record { number = 1; line = 0 }); lent = before }) (rw s)) in
+          let w = ap (λ (x : Outcome). x .answer) (told (record { answer = Refused (record { number = 1; line = 0; field = 0 }); lent = before }) (rw s)) in
           let z : _≡_ {A = ℕ} 0 1 = cc in absurd (omega arith)
       at false s (accepted text) t =
           let o = told (outcome-of (accepted (sealed text)) before) (rw (s, t)) in
@@ -109,7 +109,7 @@ module _ {rule : Rule} {sheet : Bytes} {before after : Lent} where
 
       at : (b : Bool) → too-short sealed-size before ≡ b → (said : Said) → answer rule sheet ≡ said → Told rule before n (after .report)
       at true s said t =
-          let w = ap (λ (x : Outcome). x .answer) (told (record { answer = Refused (record { number = 1; line = 0 }); lent = before }) (rw s)) in
+          let w = ap (λ (x : Outcome). x .answer) (told (record { answer = Refused (record { number = 1; line = 0; field = 0 }); lent = before }) (rw s)) in
           let z : _≡_ {A = ℕ} 0 1 = cc in absurd (omega arith)
       at false s (accepted text) t =
           let w = ap (λ (x : Outcome). x .answer) (told (outcome-of (accepted (sealed text)) before) (rw (s, t))) in

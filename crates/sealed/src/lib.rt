@@ -27,6 +27,7 @@ pub fn check_sealed(
         return Answer::Refused(Refusal {
             number: TOO_SHORT,
             line: 0,
+            field: 0,
         });
     }
     let said = checker::check(rule, sheet, report, words, queue);
@@ -43,7 +44,7 @@ pub fn check_sealed(
     }
 }
 
-// What a program writes of the sealed answer, at the start of the lent report: the sealed report, or `X number line`. Its length is
+// What a program writes of the sealed answer, at the start of the lent report: the sealed report, or `X number line field`. Its length is
 // returned; where refusal 1 is given nothing changes, and the length is 0.
 pub fn sealed_text(
     rule: Rule,

@@ -38,6 +38,9 @@ use Rattle.sheet.proofs.LawsProgress.{sheet-so-far}
 apart : {Q : Type 0} {breach : Breach} {r : Record} {n : ℕ} → bad breach ≡ good r n → Q
 apart e = let z : _≡_ {A = ℕ} 0 1 = cc in absurd (omega arith)
 
+good-bad : {Q : Type 0} {S : Sheet} {number : ℕ} → paper.good S ≡ paper.bad number → Q
+good-bad e = let z : _≡_ {A = ℕ} 0 1 = cc in absurd (omega arith)
+
 -- what is told is what the paper's reader makes of the line
 module _ (so : Option Sheet) (end : ℕ) where
   told-bad : (read : Option Record) {breach : Breach} → told so end read ≡ bad breach → read-record so read ≡ paper.bad (breach .number)
@@ -60,14 +63,15 @@ module _ (so : Option Sheet) (end : ℕ) where
       go (some n) e = apart e
 
 module _ {read : Option Record} {s : Bytes} {at : ℕ} {l : List ℕ} {line : Line} (t : line ≡ told (so-far l) (line-end s at) read) where
-  -- refused: the words may be anything
-  pub line-refused : {l′ : List ℕ} {breach : Breach} → length l′ ≡ length l → line ≡ bad breach → LineRead read s at l l′ (lined.Bad breach)
+  -- refused: the words are left
+  pub line-refused : {l′ : List ℕ} {breach : Breach} → l′ ≡ l → line ≡ bad breach → LineRead read s at l l′ (lined.Bad breach)
   unfolding lined-of
-  line-refused {l′} {breach} len e =
+  line-refused {l′} {breach} left e =
       let b : read-record (so-far l) read ≡ paper.bad (breach .number) = told-bad (so-far l) (line-end s at) read (sym t ∙ e) in
       record {
         answer = rw b;
-        same-length = len;
+        same-length = ap length left;
+        bad-line = λ number g. left;
         good-line = λ T g. absurd (let z : paper.bad (breach .number) ≡ paper.good T = sym b ∙ g in let w : _≡_ {A = ℕ} 0 1 = cc in omega arith);
       }
 
@@ -81,6 +85,7 @@ module _ {read : Option Record} {s : Bytes} {at : ℕ} {l : List ℕ} {line : Li
       record {
         answer = rw (g, q .1);
         same-length = stored .same-length;
+        bad-line = λ number h. good-bad (sym g ∙ h);
         good-line = λ T h.
             let t : T ≡ add-record (sheet-of l) r = let q : paper.good T ≡ paper.good (add-record (sheet-of l) r) = sym h ∙ g in cc in
             record {

@@ -17,36 +17,18 @@ use Rattle.records.specs.Records.{Behind}
 use Rattle.sheet.specs.Reading.{SheetText, lined-of, LineRead}
 use Rattle.sheet.specs.declared.Lined as Lined
 use Rattle.sheet.specs.declared.Lined.the-variants as lined
-use Rattle.sheet.proofs.LawsText.{letter-none, not-last}
+use Rattle.records.specs.Letters.{opens, letter-ends}
 
 -- a byte that ends no field ends no line
 no-feed : (b : ℕ) → ends-field b ≡ false → ends-line b ≡ false
 unfolding ends-field ends-line
 no-feed b e = by-test (eqb b tab) (λ t. absurd (true≢false (rw t at e))) λ t. rw t at e
 
-one-byte-length : (field : Bytes) → (one-byte field ≡ 0 → ⊥) → length field ≡ 1
-unfolding one-byte
-one-byte-length [] d = absurd (d refl)
-one-byte-length (b ∷ []) d = refl
-one-byte-length (b ∷ c ∷ bs) d = absurd (d refl)
-
 module _ (s : Bytes) (at : ℕ) (text : SheetText s) (inside : at < length s) where
   module _ (some-letter : one-byte (field-at s at) ≡ 0 → ⊥) where
-    opens : ends-field (getD s at 0) ≡ false
-    opens = by-test (ends-field (getD s at 0)) (λ t. absurd (some-letter (letter-none s at inside t))) λ t. t
-
-    ends : field-end s at ≡ at + 1
-    unfolding field-end
-    ends = rw (one-byte-length (field-at s at) some-letter)
-
-    pub behind-letter : Behind s (at + 1)
-    behind-letter =
-        let h : at + 1 < length s = not-last s at inside text opens in
-        record { inside = h; stops = rw ends at (field-ended s at (rw ends h)); last = text .last; size = text .size }
-
     same-line : line-end s (at + 1) ≡ line-end s at
     unfolding line-end line-at ends-line ends-field
-    same-line = rw (until-more ends-line s at inside (no-feed (getD s at 0) opens)) (omega arith)
+    same-line = rw (until-more ends-line s at inside (no-feed (getD s at 0) (opens s at inside some-letter))) (omega arith)
 
   -- the letter, as a number, and its reader
   module _ (letter : ℕ) (e : one-byte (field-at s at) ≡ letter) where
@@ -58,10 +40,11 @@ module _ (s : Bytes) (at : ℕ) (text : SheetText s) (inside : at < length s) wh
         → {l l′ : List ℕ} {r : Lined.Lined} → LineRead read s (at + 1) l l′ r → LineRead (record-of (fields (line-at s at))) s at l l′ r
     read-by-letter d read same line =
         let here : one-byte (field-at s at) ≡ 0 → ⊥ = λ z. d (sym e ∙ z) in
-        let q : record-of (fields (line-at s at)) ≡ read = by-its-letter ∙ rw (ends here) same in
+        let q : record-of (fields (line-at s at)) ≡ read = by-its-letter ∙ rw (letter-ends s at inside here) same in
         rw q (record {
           answer = rw (← same-line here) (line .answer);
           same-length = line .same-length;
+          bad-line = line .bad-line;
           good-line = λ S g.
               let k = line .good-line S g in
               record { inside = rw (← same-line here) (k .inside); sheet-so-far = k .sheet-so-far; progress = k .progress };
@@ -73,6 +56,7 @@ module _ (s : Bytes) (at : ℕ) (text : SheetText s) (inside : at < length s) wh
     no-letter z l = rw (by-its-letter, z) (record {
       answer = refl;
       same-length = refl;
+      bad-line = λ number g. refl;
       good-line = λ S g. absurd (let w : _≡_ {A = ℕ} 0 1 = cc in omega arith);
     })
 

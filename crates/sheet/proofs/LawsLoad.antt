@@ -12,7 +12,7 @@ use lib.ListN.{length, getD, take, drop, replicate, length-append, length-drop, 
 use lib.Seq.{length-take-le}
 use Rattle.paper.specs.Text.{Bytes, lines, fields}
 use Rattle.paper.specs.Sheet.{Sheet}
-use Rattle.paper.specs.Refusals.{loaded, refused, good, bad, record-of, read-record, read-line, read-end, carry-on, read-lines, no-text, read}
+use Rattle.paper.specs.Refusals.{loaded, refused, good, bad, record-of, read-record, so-far-of, field-of, read-line, read-end, carry-on, read-lines, no-text, read}
 use Rattle.paper.specs.Refusals as paper
 use Rattle.paper.specs.declared.Refusal.{Refusal}
 use Rattle.layout.specs.Layout.{blocks-word, opened-word, begun-word, block-base, all-words}
@@ -22,13 +22,13 @@ use Rattle.records.specs.declared.Breach.{Breach}
 use Rattle.loaded.specs.declared.Reached.{Reached}
 use Rattle.loaded.specs.Loaded.{reached-of, sheet-of, so-far}
 use Rattle.loaded.specs.Filling.{Blank}
-use Rattle.sheet.specs.Reading.{Progress, lined-of, LineRead, loading-of, Load}
+use Rattle.sheet.specs.Reading.{Progress, lined-of, LineRead, BadLine, loading-of, Load}
 use Rattle.sheet.specs.Reading as reading
 use Rattle.sheet.specs.declared.Lined.the-variants as lined
 use Rattle.sheet.specs.declared.Loading as Loading
 use Rattle.sheet.specs.declared.Loading.the-variants as loading
 use Rattle.loaded.specs.Blocks.{length-blocks}
-use Rattle.sheet.proofs.LawsProgress.{so-far-blank, so-far-begun}
+use Rattle.sheet.proofs.LawsProgress.{so-far-blank, so-far-begun, so-far-counted}
 
 -- a sheet that is refused: its words may be anything
 refused-load : {sheet : Bytes} {before after : List ℕ} {refusal : Refusal} → read sheet ≡ refused refusal → length after ≡ length before
@@ -75,7 +75,10 @@ unfolding line-end
 further sheet at = omega arith
 
 module _ {sheet : Bytes} {at line : ℕ} {words₀ words : List ℕ} (ahead : Ahead sheet at line words₀ words) (more : at < length sheet) where
-  next-line : read sheet ≡ carry-on line (read-record (so-far words) (record-of (fields (line-at sheet at)))) (λ S. read-lines (suc line) (some S) (lines (drop (line-end sheet at + 1) sheet)))
+  next-line : read sheet
+      ≡ carry-on line (λ number. field-of number (so-far-of (so-far words)) (fields (line-at sheet at)))
+      (read-record (so-far words) (record-of (fields (line-at sheet at))))
+      (λ S. read-lines (suc line) (some S) (lines (drop (line-end sheet at + 1) sheet)))
   unfolding read-lines read-line
   next-line = ahead .gives ∙ rw (lines-at sheet at more)
 
@@ -97,12 +100,25 @@ module _ {sheet : Bytes} {at line : ℕ} {words₀ words : List ℕ} (ahead : Ah
       good-of (line-end sheet at + 1) n (read-record (so-far words) (record-of (fields (line-at sheet at)))) (at < n) (r .answer) λ S g e.
       omega (arith, further sheet at)
 
-  pub line-bad : {words′ : List ℕ} (breach : Breach) → LineRead (record-of (fields (line-at sheet at))) sheet at words words′ (lined.Bad breach)
-      → Load sheet words₀ words′ (loading.Refused (record { number = breach .number; line = line }))
-  unfolding carry-on
-  line-bad {words′} breach r =
-      let b : read-record (so-far words) (record-of (fields (line-at sheet at))) ≡ bad (breach .number) = bad-of (line-end sheet at + 1) breach _ (r .answer) in
-      refused-load (next-line ∙ rw b) (r .same-length ∙ ahead .same-length)
+  module _ {words′ : List ℕ} (breach : Breach) (r : LineRead (record-of (fields (line-at sheet at))) sheet at words words′ (lined.Bad breach)) where
+    refused-by : read-record (so-far words) (record-of (fields (line-at sheet at))) ≡ bad (breach .number)
+    refused-by = bad-of (line-end sheet at + 1) breach _ (r .answer)
+
+    -- the words are as they were, so what they say of the sheet is known
+    pub bad-progress : Progress words′
+    bad-progress = rw (r .bad-line (breach .number) refused-by) (ahead .progress)
+
+    -- the field is looked for beside the sheet so far
+    pub line-bad : {refusal : Refusal} → BadLine sheet at words′ breach line refusal → Load sheet words₀ words′ (loading.Refused refusal)
+    unfolding carry-on
+    line-bad {refusal} b =
+        let same : words′ ≡ words = r .bad-line (breach .number) refused-by in
+        let e : refusal .field ≡ field-of (breach .number) (so-far-of (so-far words)) (fields (line-at sheet at)) =
+        b .field-is (so-far-of (so-far words)) (rw same (so-far-counted words (ahead .progress) _ refl)) in
+        let field : ℕ = field-of (breach .number) (so-far-of (so-far words)) (fields (line-at sheet at)) in
+        let whole : _≡_ {A = Refusal} (record { number = breach .number; line = line; field = field }) refusal =
+        rw (← e, ← b .number-is, ← b .line-is) refl in
+        refused-load (next-line ∙ rw refused-by (ap refused whole)) (r .same-length ∙ ahead .same-length)
 
 -- the end
 
@@ -113,12 +129,12 @@ module _ {sheet : Bytes} {at line : ℕ} {words₀ words : List ℕ} (ahead : Ah
 
   -- "or the sheet ends with too few `B`"
   pub too-few : {r : Reached} {blocks : ℕ} → r ≡ reached-of words → blocks ≡ getD words blocks-word 0 → (not (r .begun) || ltb (r .opened) blocks) ≡ true
-      → Load sheet words₀ words (loading.Refused (record { number = 4; line = line }))
+      → Load sheet words₀ words (loading.Refused (record { number = 4; line = line; field = 0 }))
   unfolding read-end sheet-of
   too-few q n e = refused-load (at-end ∙ go (ahead .progress) (rw (q, n) at e)) (ahead .same-length)
     where
       go : Progress words → (not (not (eqb (getD words begun-word 0) 0)) || ltb (getD words opened-word 0) (getD words blocks-word 0)) ≡ true
-          → read-end line (so-far words) ≡ refused (record { number = 4; line = line })
+          → read-end line (so-far words) ≡ refused (record { number = 4; line = line; field = 0 })
       go (reading.blank p) e = rw (so-far-blank words p)
       go (reading.begun p) e = rw (so-far-begun words p, length-blocks words 0 (getD words opened-word 0), rw (p .begun) at e)
 
@@ -147,7 +163,7 @@ module _ {sheet : Bytes} {at line : ℕ} {words₀ words : List ℕ} (ahead : Ah
 -- before the first line
 
 -- refusal 2
-pub no-sheet : (sheet : Bytes) (words : List ℕ) → no-text sheet ≡ true → Load sheet words words (loading.Refused (record { number = 2; line = 0 }))
+pub no-sheet : (sheet : Bytes) (words : List ℕ) → no-text sheet ≡ true → Load sheet words words (loading.Refused (record { number = 2; line = 0; field = 0 }))
 unfolding read
 no-sheet sheet words e = refused-load (rw e) refl
 

@@ -7,7 +7,7 @@ use native.Mathlib.Omega.{arith}
 use borrow.Author.Tests.{ltb-false, eqb-true, not-false}
 use lib.Dec.{eqb, ltb}
 use lib.ListN.{length, getD}
-use Rattle.lists.specs.Split.{by-order, or-left, or-right}
+use Rattle.lists.specs.Split.{or-left, or-right}
 use Rattle.paper.specs.Text.{Bytes, line-feed}
 use Rattle.paper.specs.Limits.{max-sheet}
 use Rattle.paper.specs.Refusals.{empty, one-byte, no-text}
@@ -37,19 +37,6 @@ text-of (b ∷ bs) e =
     }
 
 module _ (s : Bytes) (at : ℕ) (inside : at < length s) where
-  pub letter-none : ends-field (getD s at 0) ≡ true → one-byte (field-at s at) ≡ 0
-  unfolding one-byte
-  letter-none e = rw (field-stop s at inside e)
-
-  -- a byte that ends no field is not the last one
-  pub not-last : SheetText s → ends-field (getD s at 0) ≡ false → at + 1 < length s
-  unfolding ends-field
-  not-last text e =
-      by-order (at + 1) (length s) (λ h. h) λ h.
-      let q : length s - 1 ≡ at = omega arith in
-      let feed : getD s at 0 ≡ line-feed = rw q at (text .last) in
-      absurd (true≢false (rw feed at e))
-
   module _ (e : ends-field (getD s at 0) ≡ false) (next : at + 1 < length s) where
     pub letter-one : ends-field (getD s (at + 1) 0) ≡ true → one-byte (field-at s at) ≡ getD s at 0
     unfolding one-byte

@@ -5,19 +5,22 @@ use mathlib.Core.Option.{Option, some}
 use Prim.Native.Nat.{ℕ, _+_, _-_, _≤_, _<_}
 use lib.Dec.{eqb, leb}
 use lib.ListN.{length, getD}
-use Rattle.paper.specs.Text.{Bytes, line-feed}
+use Rattle.paper.specs.Text.{Bytes, line-feed, fields}
 use Rattle.paper.specs.Sheet.{Sheet}
 use Rattle.paper.specs.Limits.{max-steps, max-sheet}
-use Rattle.paper.specs.Refusals.{Record, Reading, loaded, refused, good, bad, read-record, read}
+use Rattle.paper.specs.Refusals.{Record, field-of, Reading, loaded, refused, good, bad, read-record, read}
+use Rattle.paper.specs.declared.Refusal.{Refusal}
 use Rattle.paper.specs.Refusals as paper
 use Rattle.layout.specs.Layout.{opened-word, steps-word}
-use Rattle.fields.specs.Fields.{line-end}
+use Rattle.fields.specs.Fields.{line-at, line-end}
+use Rattle.records.specs.Records.{Counted}
 use Rattle.records.specs.declared.Place.{Place}
+use Rattle.records.specs.declared.Breach.{Breach}
 use Rattle.loaded.specs.declared.Counts.{Counts}
 use Rattle.loaded.specs.declared.CopyKind.{CopyKind}
 use Rattle.loaded.specs.declared.CopyKind.the-variants.{Spill, Reload, Move}
 use Rattle.loaded.specs.Filling.{Blank, Begun}
-use Rattle.loaded.specs.Loaded.{sheet-of, so-far, Loaded}
+use Rattle.loaded.specs.Loaded.{sheet-of, so-far, counts-of, Loaded}
 use Rattle.sheet.specs.declared.CopyLimits.{CopyLimits}
 use Rattle.sheet.specs.declared.Lined as Lined
 use Rattle.sheet.specs.declared.Lined.the-variants as lined
@@ -53,7 +56,7 @@ unfoldable pub lined-of : ℕ → paper.Lined → Lined.Lined
 lined-of next (good S) = lined.Good next
 lined-of next (bad number) = lined.Bad (record { number = number })
 
--- behind a good line the words hold the sheet that it makes
+-- behind a good line the words hold the sheet that it makes; a bad one leaves them
 pub record GoodLine (sheet : Bytes) (at : ℕ) (words : List ℕ) (S : Sheet) : Type 0 where
   pub inside : line-end sheet at < length sheet
   pub sheet-so-far : so-far words ≡ some S
@@ -64,6 +67,13 @@ pub record LineRead (read : Option Record) (sheet : Bytes) (at : ℕ) (before af
   pub answer : r ≡ lined-of (line-end sheet at + 1) (read-record (so-far before) read)
   pub same-length : length after ≡ length before
   pub good-line : (S : Sheet) → read-record (so-far before) read ≡ good S → GoodLine sheet at after S
+  pub bad-line : (number : ℕ) → read-record (so-far before) read ≡ bad number → after ≡ before
+
+-- what is told of a bad line, beside the sheet whose counts are in the words
+pub record BadLine (sheet : Bytes) (at : ℕ) (words : List ℕ) (breach : Breach) (line : ℕ) (r : Refusal) : Type 0 where
+  pub number-is : r .number ≡ breach .number
+  pub line-is : r .line ≡ line
+  pub field-is : (S : Sheet) → Counted S (counts-of words) → r .field ≡ field-of (breach .number) S (fields (line-at sheet at))
 
 -- a sheet
 

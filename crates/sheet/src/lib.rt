@@ -10,7 +10,7 @@ ghost use Rattle.layout.specs.Layout.{all-words};
 ghost use Rattle.fields.specs.Fields.{field-at, line-at, fields-behind};
 ghost use Rattle.records.specs.Records.{Behind};
 ghost use Rattle.loaded.specs.Actions.{copy-step};
-ghost use Rattle.sheet.specs.Reading.{limits-of, SheetText, Progress, step-place, LineRead, Load};
+ghost use Rattle.sheet.specs.Reading.{limits-of, SheetText, Progress, step-place, LineRead, BadLine, Load};
 use layout::BLOCK_BASE;
 use layout::MAX_SHEET;
 use layout::MAX_STEPS;
@@ -290,6 +290,21 @@ fn read_line(sheet: &[u8], at: usize, words: &mut [u16]) -> Lined
     }
 }
 
+// The refusal of a bad line, with the field that shows it.
+fn refusal_of(sheet: &[u8], at: usize, words: &[u16], breach: Breach, line: usize) -> Refusal
+    requires { ⌜ SheetText (now sheet) × (at < length (now sheet)) × (all-words ≤ length (now words)) ⌝ }
+    ensures { λ r. ⌜ BadLine (now (sheet .entry)) at (now (words .entry)) breach line r ⌝ }
+{
+    let counts = loaded::counts_of(words);
+    let number = breach.number;
+    let field = columns::field(sheet, at, letter(sheet, at), number, counts);
+    Refusal {
+        number,
+        line,
+        field,
+    }
+}
+
 // The sheet's words, or its refusal. Whatever the words held before; a refusal's words may be anything, and the caller clears
 // them.
 pub fn load(sheet: &[u8], words: &mut [u16]) -> Loading
@@ -300,6 +315,7 @@ pub fn load(sheet: &[u8], words: &mut [u16]) -> Loading
         return Loading::Refused(Refusal {
             number: NO_TEXT,
             line: 0,
+            field: 0,
         });
     }
     scratch::clear_words(&mut words[..BLOCK_BASE]);
@@ -309,10 +325,7 @@ pub fn load(sheet: &[u8], words: &mut [u16]) -> Loading
         let lined = read_line(sheet, at, words);
         match lined {
             Lined::Bad(breach) => {
-                return Loading::Refused(Refusal {
-                    number: breach.number,
-                    line,
-                });
+                return Loading::Refused(refusal_of(sheet, at, words, breach, line));
             }
             Lined::Good(next) => {
                 at = next;
@@ -325,6 +338,7 @@ pub fn load(sheet: &[u8], words: &mut [u16]) -> Loading
         return Loading::Refused(Refusal {
             number: OUT_OF_PLACE,
             line,
+            field: 0,
         });
     }
     Loading::Loaded

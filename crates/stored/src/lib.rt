@@ -66,7 +66,7 @@ pub fn say(tally: Tally) {
     io::write_all(libc::STDOUT_FILENO, b" different\n");
 }
 
-// What is stored of a sheet: its old answer, its house answer, its old and its house entry states; or `X number line` where it is
+// What is stored of a sheet: its old answer, its house answer, its old and its house entry states; or `X number line field` where it is
 // refused and `ok` where it is read.
 pub enum List {
     Answers,

@@ -294,12 +294,12 @@ lines-sound [] line (some R) S g e = go _ (ltb (length (R .body)) (R .blocks)) e
     go : (refusal : Refusal) (b : Bool) → cond b (refused refusal) (loaded R) ≡ loaded S → Sound S
     go refusal true f = refused-loaded f
     go refusal false f = subst Sound (loaded-inj f) g
-lines-sound (l ∷ ls) line so-far S g e = at (read-line so-far l) refl e (λ R h. lines-sound ls (suc line) (some R) S h)
+lines-sound (l ∷ ls) line so-far S g e = at _ (read-line so-far l) refl e (λ R h. lines-sound ls (suc line) (some R) S h)
   where
-    at : (o : Lined) → read-line so-far l ≡ o → carry-on line o (λ R. read-lines (suc line) (some R) ls) ≡ loaded S
+    at : (field : ℕ → ℕ) (o : Lined) → read-line so-far l ≡ o → carry-on line field o (λ R. read-lines (suc line) (some R) ls) ≡ loaded S
         → ((R : Sheet) → Sound R → read-lines (suc line) (some R) ls ≡ loaded S → Sound S) → Sound S
-    at (good R) h f rec = rec R (line-sound so-far l R g h) f
-    at (bad number) h f rec = refused-loaded f
+    at field (good R) h f rec = rec R (line-sound so-far l R g h) f
+    at field (bad number) h f rec = refused-loaded f
 
 -- a block read by its number is one of the body's, or has no successor and no step
 block-at : (body : List Block) (b : ℕ) → In (getD body b no-block) body ⊎ (getD body b no-block ≡ no-block)

@@ -10,7 +10,7 @@ use Rattle.layout.specs.Layout.{block-base, all-words}
 use Rattle.sheet.specs.Reading.{SheetText}
 use Rattle.sheet.proofs.LawsText.{text-of}
 use Rattle.sheet.proofs.LawsProgress.{size-of}
-use Rattle.sheet.proofs.LawsLoad.{Ahead, ahead-at-first, line-good, line-further, line-bad, too-few, all-read, no-sheet, cleared-length, cleared-blank, load-from}
+use Rattle.sheet.proofs.LawsLoad.{Ahead, ahead-at-first, line-good, line-further, bad-progress, line-bad, too-few, all-read, no-sheet, cleared-length, cleared-blank, load-from}
 use borrow.Author.Needs.{needs}
 use mathlib.Core.Bool.{false}
 use Rattle.paper.specs.Refusals.{no-text}
@@ -90,17 +90,29 @@ read-line-requires c κs =
 enum-known-lined : tie.Need-enum-known-lined Inv-loop μ-loop
 enum-known-lined c = search needs
 
+-- a bad line
+refusal-of-requires : tie.Need-refusal-of-requires Inv-loop μ-loop
+refusal-of-requires c κs =
+    let k = c .before in
+    let told = k .before .lined .given in
+    let r = k .before .before .before .before .before in
+    let l = loop-of r in
+    let h = turn-of r .loop-test .taken in
+    (text (l .before), h, size-of _ (bad-progress (l .loop .inv) h (told .0 .0) (rw (told .1) at (r .read-line .ensures))))
+
 same-length : tie.Need-same-length Inv-loop μ-loop
 same-length c =
-    let r = c .before .before .before .before .before in
+    let r = c .before .before .before .before .before .before .before in
     r .read-line .ensures .same-length ∙ kept (loop-of r)
 
 returns-2 : tie.Need-returns-2 Inv-loop μ-loop
 returns-2 c =
-    let told = c .before .lined .given in
-    let r = c .before .before .before .before .before in
+    let k = c .before .before in
+    let told = k .before .lined .given in
+    let r = k .before .before .before .before .before in
     let l = loop-of r in
-    load-from _ (started (l .before)) (line-bad (l .loop .inv) (turn-of r .loop-test .taken) (told .0 .0) (rw (told .1) at (r .read-line .ensures)))
+    load-from _ (started (l .before))
+    (line-bad (l .loop .inv) (turn-of r .loop-test .taken) (told .0 .0) (rw (told .1) at (r .read-line .ensures)) (c .refusal-of .ensures))
 
 enum-known-lined-2 : tie.Need-enum-known-lined-2 Inv-loop μ-loop
 enum-known-lined-2 c = search needs
@@ -160,6 +172,7 @@ load-spec =
     loop-holds
     read-line-requires
     enum-known-lined
+    refusal-of-requires
     same-length
     returns-2
     enum-known-lined-2

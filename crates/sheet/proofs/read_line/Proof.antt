@@ -3,7 +3,8 @@
 use mathlib.Core.Path.{_≡_, refl, sym, _∙_}
 use native.Mathlib.Omega.{arith}
 use Rattle.paper.specs.Refusals.{by-letter, record-of}
-use Rattle.sheet.proofs.LawsLetters.{behind-letter, read-by-letter, no-letter, other-letter}
+use Rattle.records.specs.Letters.{behind-letter}
+use Rattle.sheet.proofs.LawsLetters.{read-by-letter, no-letter, other-letter}
 use Prim.Native.Nat.{ℕ, _+_, _<_}
 use mathlib.Core.List.{List}
 use Rattle.paper.specs.Limits.{max-sheet}
@@ -28,7 +29,7 @@ ready : (c : tie.After-letter) (letter : ℕ) → c .letter .result ≡ letter �
     → Behind (start-of c .args .sheet .now) (start-of c .args .at + 1) × Progress (start-of c .args .words .now)
 ready c letter is some =
     let s = start-of c in
-    (behind-letter _ _ (s .pre .0) (s .pre .1) (λ z. some (sym is ∙ (c .letter .ensures ∙ z))), s .pre .2)
+    (behind-letter _ _ (s .pre .1) (λ z. some (sym is ∙ (c .letter .ensures ∙ z))) (s .pre .0 .last) (s .pre .0 .size), s .pre .2)
 
 -- what it gives is what the line gives
 lined : (c : tie.After-letter) (letter : ℕ) → c .letter .result ≡ letter → (letter ≡ 0 → ⊥) → {l l′ : List ℕ} {r : Lined.Lined}

@@ -1,0 +1,4 @@
+pub mod LawsPassing
+pub mod LawsNumbers
+pub mod LawsOperands
+pub mod LawsLines
