@@ -197,13 +197,13 @@ apart : {Q : Type 0} {n : ℕ} {refusal : Refusal} → (Refused refusal ≡ Acce
 apart (inl e) = let z : _≡_ {A = ℕ} 0 1 = cc in absurd (omega arith)
 apart (inr e) = let z : _≡_ {A = ℕ} 0 1 = cc in absurd (omega arith)
 
-accepted-long : {text : Bytes} {n : ℕ} → (Accepted (length text) ≡ Accepted n) ⊎ (Accepted (length text) ≡ Faulty n) → n ≡ length text
-accepted-long (inl e) = cc
-accepted-long (inr e) = let z : _≡_ {A = ℕ} 0 1 = cc in absurd (omega arith)
+accepted-long : (text : Bytes) {n : ℕ} → (Accepted (length text) ≡ Accepted n) ⊎ (Accepted (length text) ≡ Faulty n) → n ≡ length text
+accepted-long text (inl e) = cc
+accepted-long text (inr e) = let z : _≡_ {A = ℕ} 0 1 = cc in absurd (omega arith)
 
-faulty-long : {text : Bytes} {n : ℕ} → (Faulty (length text) ≡ Accepted n) ⊎ (Faulty (length text) ≡ Faulty n) → n ≡ length text
-faulty-long (inl e) = let z : _≡_ {A = ℕ} 0 1 = cc in absurd (omega arith)
-faulty-long (inr e) = cc
+faulty-long : (text : Bytes) {n : ℕ} → (Faulty (length text) ≡ Accepted n) ⊎ (Faulty (length text) ≡ Faulty n) → n ≡ length text
+faulty-long text (inl e) = let z : _≡_ {A = ℕ} 0 1 = cc in absurd (omega arith)
+faulty-long text (inr e) = cc
 
 outcome-text : (rule : Rule) (sheet : Bytes) (before : Lent) (n : ℕ)
     → ((outcome rule sheet before) .answer ≡ Accepted n) ⊎ ((outcome rule sheet before) .answer ≡ Faulty n)
@@ -211,22 +211,19 @@ outcome-text : (rule : Rule) (sheet : Bytes) (before : Lent) (n : ℕ)
 unfolding outcome outcome-of answer said-after said-of said-by answer-of report-of written laid
 outcome-text rule sheet before n e = at (too-short report-size before) refl (read sheet) refl
   where
-    Left : Outcome → Type 0
-    Left o = ((o .answer ≡ Accepted n) ⊎ (o .answer ≡ Faulty n)) → take n (o .lent .report) ≡ written (answer rule sheet)
-
     whole : (text : Bytes) → n ≡ length text → take n (laid text (before .report)) ≡ text
     whole text k = ap (λ (j : ℕ). take j (laid text (before .report))) k ∙ take-at text (drop (length text) (before .report)) (length text) refl
 
-    lines : (S : Sheet) → read sheet ≡ loaded S → (ls : List Line) → faults-in (entries rule S) ≡ ls
-        → Left (outcome-of (said-by ls (report-text rule (entries rule S))) before)
-    lines S h [] q f = whole (report-text rule (entries rule S)) (accepted-long f) ∙ rw (h, q)
-    lines S h (l ∷ ls) q f = whole (report-text rule (entries rule S)) (faulty-long f) ∙ rw (h, q)
+    lines : (ls : List Line) (text : Bytes) → let o = outcome-of (said-by ls text) before in (o .answer ≡ Accepted n) ⊎ (o .answer ≡ Faulty n)
+        → take n (o .lent .report) ≡ written (said-by ls text)
+    lines [] text f = whole text (accepted-long text f)
+    lines (l ∷ ls) text f = whole text (faulty-long text f)
 
     at : (b : Bool) → too-short report-size before ≡ b → (o : Reading) → read sheet ≡ o
         → TextOf rule sheet (take n ((outcome rule sheet before) .lent .report))
     at true s o h = apart (rw s at e)
     at false s (refused refusal) h = apart (rw (s, h) at e)
-    at false s (loaded S) h = record { sheet = S; is-read = h; is-text = rw (s, h) (lines S h (faults-in (entries rule S)) refl (rw (s, h) at e)) }
+    at false s (loaded S) h = record { sheet = S; is-read = h; is-text = rw (s, h) (lines (faults-in (entries rule S)) (report-text rule (entries rule S)) (rw (s, h) at e)) }
 
 check-text : {rule : Rule} {sheet : Bytes} {before after : Lent} {r : Answer} → Checked rule sheet before after r
     → (n : ℕ) → (r ≡ Accepted n) ⊎ (r ≡ Faulty n) → TextOf rule sheet (take n (after .report))

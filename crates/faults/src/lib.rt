@@ -343,10 +343,10 @@ fn write_unmarked(words: &[u16], report: &mut [u8], at: usize) -> usize
     requires { ⌜ Loaded (now words) × (run-words ≤ length (now words)) × (at + longest-unreached-line * max-blocks ≤ length (now report)) ⌝ }
     ensures { λ r. ⌜ Wrote (now (report .entry)) at (lines-text (unmarked-lines (now (words .entry)))) (now (report .exit)) r × (r ≤ at + longest-unreached-line * max-blocks) ⌝ }
 {
-    let blocks = loaded::blocks(words);
+    let total = loaded::blocks(words);
     let mut next = at;
     let mut block = 0;
-    while block < blocks {
+    while block < total {
         if words[MARK_BASE + block] == 0 {
             next = report::write_unreached(report, next, block);
         }

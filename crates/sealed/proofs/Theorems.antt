@@ -156,5 +156,5 @@ unfolding sealed-outcome outcome-of answer-of sealed-said
 sealed-exactly {sheet} {before} {after} {r} c long =
     let said = ap (λ (o : Outcome). o .answer) (c .whole) in (
       λ p. acceptable (sealed-accepted (subst (CheckedSealed House sheet before after) (p .1) c)),
-      λ a. (_, said ∙ rw (long, bytes-acceptance sheet (a .sheet) (a .is-read) .1 (a .sentence))),
+      λ a. (length (sealed (report-text House (entries House (a .sheet)))), said ∙ rw (long, bytes-acceptance sheet (a .sheet) (a .is-read) .1 (a .sentence))),
     )

@@ -17,12 +17,12 @@ use Rattle.faults.proofs.write_unmarked.Statement.{statement}
 use Rattle.faults.proofs.write_unmarked.Tie as tie
 
 abbrev Inv-loop : tie.InvT-loop
-Inv-loop words report₀ at blocks next₀ block₀ report next block =
-    (block ≤ blocks) × (next ≤ at + longest-unreached-line * block) × (length report ≡ length report₀)
+Inv-loop words report₀ at total next₀ block₀ report next block =
+    (block ≤ total) × (next ≤ at + longest-unreached-line * block) × (length report ≡ length report₀)
     × Wrote report₀ at (lines-text (unmarked-to words block)) report next
 
 abbrev μ-loop : tie.MeasureT-loop
-μ-loop words report₀ at blocks next₀ block₀ report next block = blocks - block
+μ-loop words report₀ at total next₀ block₀ report next block = total - block
 
 -- what the function was given, from the loop
 abbrev start-of : tie.At-loop Inv-loop μ-loop → tie.Start Inv-loop μ-loop
