@@ -43,10 +43,11 @@ typedef struct itanropen_verdict {
     uint8_t number; /* refused: the refusal's number, 1 to 9; else 0 */
     size_t length;  /* accepted, faulty: how many bytes of the report are its text; else 0 */
     size_t line;    /* refused: the sheet's line, from 1, or 0 for the whole; else 0 */
+    size_t field;   /* refused by 3 or by 5 to 8: the line's first field to show it, the letter being 1; else 0 */
 } itanropen_verdict;
 
 /* The library's own layout; a compiler with another one stops here. */
-typedef char itanropen_verdict_has_24_bytes[sizeof(itanropen_verdict) == 24 && offsetof(itanropen_verdict, length) == 8 ? 1 : -1];
+typedef char itanropen_verdict_has_32_bytes[sizeof(itanropen_verdict) == 32 && offsetof(itanropen_verdict, length) == 8 ? 1 : -1];
 
 /* 4. The buffers that a call is lent, at their sizes: some 115,000 bytes, so static or allocated rather than on a small stack. Nothing
  * need be set before a call.
@@ -69,9 +70,10 @@ typedef struct itanropen_buffers {
  *
  * Promise (`Exported` of crates/checker/specs/Checked.antt; one outcome only, `export-one-outcome`), for every sheet and every content
  * of the buffers:
- * - refused with number 1 and line 0 exactly where a buffer is shorter than its size above; then nothing is changed;
+ * - refused with number 1, line 0 and field 0 exactly where a buffer is shorter than its size above; then nothing is changed;
  * - otherwise every element of words and queue is 0 afterwards, also past their sizes;
- * - refused: number and line are those of document 01's table (crates/paper/specs/Refusals.antt); the report is as it was;
+ * - refused: number, line and field are those of document 01's table as document 02, A4, amends it (crates/paper/specs/Refusals.antt);
+ *   the report is as it was;
  * - accepted or faulty: the first `length` bytes of the report are its text, and later bytes are as they were. No zero byte ends it;
  * - accepted under the house rule exactly where the sheet is read and document 01's sentence on acceptance holds of it, as document 02,
  *   A5, amends it; then the original and the allocated program read equal values at every use on every walk (`export-exactly`,

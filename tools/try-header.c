@@ -102,7 +102,7 @@ static void try_fields(void)
     static const struct {
         const char *sheet;
         unsigned number, line, field;
-    } refusals[] = {{"\n", 3, 1, 1}, {"F\t0\t0\t0\t1\n", 3, 1, 6}, {"F\t0\t0\t0\t1\t1\n", 5, 1, 6}, {"F\t1\t1\t0\t1\t0\nB\nP\t0\t0\t0\n", 6, 3, 4},
+    } refusals[] = {{"\n", 3, 1, 1}, {"F\t0\t0\t0\t1\n", 3, 1, 6}, {"F\t0\t0\t0\t0\t0\n", 5, 1, 5}, {"F\t0\t0\t0\t1\t1\n", 5, 1, 6}, {"F\t1\t1\t0\t1\t0\nB\nP\t0\t0\t0\n", 6, 3, 4},
                     {"F\t1\t1\t0\t1\t0\nB\nO\t0\t1\tr0\t-\t0\n", 7, 3, 5}, {"F\t0\t0\t0\t1\t0\n", 4, 2, 0}};
     size_t i;
     for (i = 0; i < ITANROPEN_COUNT(refusals); i++) {

@@ -10,6 +10,8 @@ extern crate self as rustc_hash;
 
 #[path = "../../target/oracle/regalloc/src/checker.rs"]
 mod checker;
+#[path = "../../oracle/src/columns.rs"]
+mod columns;
 #[path = "../../oracle/src/damage.rs"]
 mod damage;
 #[path = "../../oracle/src/generate.rs"]

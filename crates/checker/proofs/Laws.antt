@@ -126,7 +126,7 @@ module _ {sheet : Bytes} {before after : List ℕ} {r : Loading.Loading} (l : Lo
   refused-answer rule {report} {words} {queue} {refusal} e w =
       let h : read sheet ≡ refused refusal = refuses-sheet l e in
       let b = read-bounded sheet refusal h in
-      rw h (record { answer-is = refl; report-is = refl; same-words = w; same-queue = refl; within = (b .most, omega (arith, b .inside)) })
+      rw h (record { answer-is = refl; report-is = refl; same-words = w; same-queue = refl; within = (b .most, omega (arith, b .inside), b .shown) })
 
 -- no step lacks an allocation
 pub nothing-missing : {words : List ℕ} {r : Missing} → MissingOf words r → r ≡ Nothing → missing-allocations (sheet-of words) ≡ []
@@ -147,7 +147,7 @@ answered-from {report} {r} a e w = record {
 -- refusal 1 changes nothing
 pub turned-short : (rule : Rule) (sheet : Bytes) (before : Lent) → too-short report-size before ≡ true → Checked rule sheet before before (Refused (record { number = 1; line = 0; field = 0 }))
 unfolding outcome
-turned-short rule sheet before e = record { whole = rw e; within = (omega arith, omega arith) }
+turned-short rule sheet before e = record { whole = rw e; within = (omega arith, omega arith, omega arith) }
 
 -- any other answer leaves the scratch zero
 pub checked : {rule : Rule} {sheet : Bytes} {report words queue report′ words₁ queue₁ words′ queue′ : List ℕ} {r : Answer}

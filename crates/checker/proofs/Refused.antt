@@ -96,7 +96,8 @@ line-numbered so-far line n e = at (record-of (fields line)) e
 bounded-as : {line n bytes : ℕ} {r refusal : Refusal} → Bounded line n bytes r → refused r ≡ refused refusal → Bounded line n bytes refusal
 bounded-as {line} {n} {bytes} {r} {refusal} b e = let z : r ≡ refusal = cc in subst (Bounded line n bytes) z b
 
-lines-bounded : (ls : List Bytes) (line : ℕ) (so-far : Option Sheet) (r : Refusal) → read-lines line so-far ls ≡ refused r → Bounded line (length ls) (bytes-in ls) r
+lines-bounded : (ls : List Bytes) (line : ℕ) (so-far : Option Sheet) (r : Refusal) → read-lines line so-far ls ≡ refused r
+    → Bounded line (length ls) (bytes-in ls) r
 unfolding read-lines read-end carry-on bytes-in
 lines-bounded [] line none r e = bounded-as (record { least = omega arith; most = omega arith; inside = omega arith; shown = omega arith }) e
 lines-bounded [] line (some S) r e = go (ltb (length (S .body)) (S .blocks)) e
@@ -106,7 +107,8 @@ lines-bounded [] line (some S) r e = go (ltb (length (S .body)) (S .blocks)) e
     go false f = apart f
 lines-bounded (x ∷ ls) line so-far r e = at (read-line so-far x) refl e (λ R. lines-bounded ls (suc line) (some R) r)
   where
-    at : (o : Lined) → read-line so-far x ≡ o → carry-on line (λ number. field-of number (so-far-of so-far) (fields x)) o (λ R. read-lines (suc line) (some R) ls) ≡ refused r
+    at : (o : Lined) → read-line so-far x ≡ o
+        → carry-on line (λ number. field-of number (so-far-of so-far) (fields x)) o (λ R. read-lines (suc line) (some R) ls) ≡ refused r
         → ((R : Sheet) → read-lines (suc line) (some R) ls ≡ refused r → Bounded (suc line) (length ls) (bytes-in ls) r)
         → Bounded line (suc (length ls)) (length x + bytes-in ls) r
     at (good R) h f rec =

@@ -3,7 +3,7 @@
 -- text that `answer_text` leaves and `regcheck` writes: accepted under the house rule exactly when the sheet is read and the
 -- acceptance sentence holds of it; then its two programs read equal values at every use. And for every sheet that is read, accepted
 -- or not, the report is of states that are the meet over all walks, it is well formed, and it has a line `N b` exactly where no
--- allocation is missing and no walk comes to block b.
+-- allocation is missing and no walk comes to block b; a refusal's field is that of its line.
 use mathlib.Core.Path.{_≡_, refl, sym, ap, _∙_, subst}
 use mathlib.Core.Logic.{_↔_, _⊎_, inl, inr, ⊎-map, ⊎-elim}
 use mathlib.Core.Bool.{Bool, true, false}
@@ -13,11 +13,11 @@ use mathlib.Core.List.{List, [], _∷_}
 use lib.ListN.{length, take, drop}
 use lib.Seq.{take-at}
 use Rattle.lists.specs.Split.{by-equal}
-use Rattle.paper.specs.Text.{Bytes}
+use Rattle.paper.specs.Text.{Bytes, lines}
 use Rattle.paper.specs.Sheet.{Sheet}
 use Rattle.paper.specs.Limits.{report-size}
 use Rattle.paper.specs.Runs.{visit-bound, EndsAfter}
-use Rattle.paper.specs.Refusals.{Reading, loaded, refused, read}
+use Rattle.paper.specs.Refusals.{names-field, Reading, loaded, refused, read}
 use Rattle.paper.specs.Report.{Line, Entry, find-errors, first-list, missing-allocations, entries, faults-in, faults, report-text}
 use Rattle.paper.specs.Walks.{In, Acceptance}
 use Rattle.paper.specs.Comparison.{pieces, bad-line}
@@ -31,6 +31,7 @@ use Rattle.walks.specs.Small.{Small}
 use Rattle.walks.specs.Unreached.{Unwalked}
 use Rattle.walks.specs.Theorems.{ReadSheet, read-sheet, acceptance, read-closed, read-typed, Acceptable, AcceptedBytes, acceptable, accepted-bytes, bytes-acceptance}
 use Rattle.compare.specs.Spelled.{report-well-formed, unreached-line, named-exactly}
+use Rattle.columns.specs.Theorems.{Located, unlocated, read-located}
 use Rattle.checker.specs.Checked.{Checked, TextOutcome, Stated, verdict-of, rule-of, Exported}
 use Rattle.checker.specs.declared.Verdict.{Verdict}
 use Rattle.checker.proofs.Laws.{number-0, number-other}
@@ -291,3 +292,32 @@ pub export-named : {rule : ℕ} {sheet : Bytes} {before after : Lent} {r : Verdi
     → (b : ℕ) → Small b → In (unreached-line b) (pieces (take (r .length) (after .report))) ↔ UnwalkedBytes sheet b
 export-named {rule} {sheet} {after = after} {r = r} house c given =
     text-named (subst (λ (chosen : Rule). TextOf chosen sheet (take (r .length) (after .report))) (sym (number-other rule house)) (export-text c given))
+
+-- Document 02, A4: the field of a refusal. Whatever sheet `check` refuses, the field is other than 0 exactly where the number names
+-- one; then it is that of the bad line, beside what the lines before it say.
+
+outcome-located : (rule : Rule) (sheet : Bytes) (before : Lent) (refusal : Refusal) → (outcome rule sheet before) .answer ≡ Refused refusal → Located (lines sheet) 1 refusal
+unfolding outcome outcome-of answer said-after answer-of said-of said-by names-field
+outcome-located rule sheet before refusal e = at (too-short report-size before) refl (read sheet) refl
+  where
+    told : (o : Outcome) → outcome rule sheet before ≡ o → o .answer ≡ Refused refusal
+    told o f = sym (ap (λ (x : Outcome). x .answer) f) ∙ e
+
+    one : (r : Refusal) → Refused r ≡ Refused refusal → Located (lines sheet) 1 r → Located (lines sheet) 1 refusal
+    one r f l = let z : r ≡ refusal = cc in subst (Located (lines sheet) 1) z l
+
+    said : (ls : List Line) (text : Bytes) → answer-of (said-by ls text) ≡ Refused refusal → Located (lines sheet) 1 refusal
+    said [] text f = let z : _≡_ {A = ℕ} 0 1 = cc in absurd (omega arith)
+    said (l ∷ ls) text f = let z : _≡_ {A = ℕ} 0 1 = cc in absurd (omega arith)
+
+    at : (b : Bool) → too-short report-size before ≡ b → (o : Reading) → read sheet ≡ o → Located (lines sheet) 1 refusal
+    at true s o h =
+        let short : Refusal = record { number = 1; line = 0; field = 0 } in
+        one short (told (record { answer = Refused short; lent = before }) (rw s)) (unlocated (lines sheet) 1 1 0 refl)
+    at false s (refused r) h = one r (told (outcome-of (turned-away r) before) (rw (s, h))) (read-located sheet r h)
+    at false s (loaded S) h =
+        said (faults-in (entries rule S)) (report-text rule (entries rule S)) (told (outcome-of (said-of rule (entries rule S)) before) (rw (s, h)))
+
+pub check-located : {rule : Rule} {sheet : Bytes} {before after : Lent} {refusal : Refusal} → Checked rule sheet before after (Refused refusal)
+    → Located (lines sheet) 1 refusal
+check-located {rule} {sheet} {before} {after} {refusal} c = outcome-located rule sheet before refusal (sym (ap (λ (o : Outcome). o .answer) (c .whole)))

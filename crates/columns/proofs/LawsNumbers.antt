@@ -16,21 +16,21 @@ use Rattle.fields.specs.Fields.{fields-behind}
 use Rattle.fields.specs.Cursor.{fields-behind-none}
 use Rattle.records.specs.Records.{Behind}
 use Rattle.columns.specs.Columns.{Shown, Passed}
-use Rattle.columns.specs.Bounds.{numbers-most, behind-most}
+use Rattle.columns.specs.Bounds.{before-others, number-test, numbers-most, behind-most}
 use Rattle.columns.proofs.LawsPassing.{shown-first, shown-second, passed-both, passed-on, rising-as}
 
 module _ (number limit : ℕ) where
   -- one number, and then those behind it
   numbers-step : (least : ℕ) (fs : List Bytes)
       → numbers-passing number limit least fs
-      ≡ passing number-of (λ n. within number limit n && rising number least n) fs (λ n rest. numbers-passing number limit (suc n) rest)
+      ≡ passing number-of (number-test number limit least) fs (λ n rest. numbers-passing number limit (suc n) rest)
   unfolding numbers-passing passing onward next
   numbers-step least [] = refl
   numbers-step least (f ∷ fs) = go (number-of f)
     where
       go : (o : Option ℕ)
-          → onward (λ n. within number limit n && rising number least n) (λ n rest. numbers-passing number limit (suc n) fs) (Option·map (λ a. record { value = a; rest = fs }) o)
-          ≡ onward (λ n. within number limit n && rising number least n) (λ n rest. numbers-passing number limit (suc n) rest) (Option·map (λ a. record { value = a; rest = fs }) o)
+          → onward (number-test number limit least) (λ n rest. numbers-passing number limit (suc n) fs) (before-others fs o)
+          ≡ onward (number-test number limit least) (λ n rest. numbers-passing number limit (suc n) rest) (before-others fs o)
       go none = refl
       go (some n) = refl
 
@@ -42,15 +42,16 @@ module _ (number limit : ℕ) where
   numbers-few (suc most) least (f ∷ fs) = go (number-of f) (λ n. numbers-few most (suc n) fs)
     where
       go : (o : Option ℕ) → ((n : ℕ) → numbers-passing number limit (suc n) (take most fs) ≡ min most (numbers-passing number limit (suc n) fs))
-          → onward (λ n. within number limit n && rising number least n) (λ n rest. numbers-passing number limit (suc n) (take most fs)) (Option·map (λ a. record { value = a; rest = take most fs }) o)
-          ≡ min (suc most) (onward (λ n. within number limit n && rising number least n) (λ n rest. numbers-passing number limit (suc n) fs) (Option·map (λ a. record { value = a; rest = fs }) o))
+          → onward (number-test number limit least) (λ n rest. numbers-passing number limit (suc n) (take most fs)) (before-others (take most fs) o)
+          ≡ min (suc most) (onward (number-test number limit least) (λ n rest. numbers-passing number limit (suc n) fs) (before-others fs o))
       go none more = sym (min-zero (suc most))
       go (some n) more =
           by-test (within number limit n && rising number least n)
           (λ t. rw (t, more n) (sym (suc-min-suc most _)))
           λ t. rw t (sym (min-zero (suc most)))
 
-  pub numbers-many : (most : ℕ) (fs : List Bytes) {n : ℕ} → n ≡ numbers-passing number limit 0 fs → most < n → most ≡ numbers-passing number limit 0 (take most fs)
+  pub numbers-many : (most : ℕ) (fs : List Bytes) {n : ℕ} → n ≡ numbers-passing number limit 0 fs → most < n → most
+      ≡ numbers-passing number limit 0 (take most fs)
   numbers-many most fs {n} e h = sym (numbers-few most 0 fs ∙ rw (← e) (min-eq-left (omega arith)))
 
   pub numbers-all : (most : ℕ) (fs : List Bytes) {n : ℕ} → n ≡ numbers-passing number limit 0 fs → n ≤ most → n ≡ numbers-passing number limit 0 (take most fs)
@@ -68,7 +69,7 @@ counting-none number limit b = record { gives = omega arith; behind = b; few = o
 
 module _ {s : Bytes} {at number limit least count i : ℕ} (c : Counting s at number limit least count i) where
   -- a field that shows it ends the count
-  stopped : Shown number-of (λ n. within number limit n && rising number least n) s i → count ≡ numbers-passing number limit 0 (fields-behind s at)
+  stopped : Shown number-of (number-test number limit least) s i → count ≡ numbers-passing number limit 0 (fields-behind s at)
   stopped h =
       let e : numbers-passing number limit least (fields-behind s i) ≡ 0 = numbers-step number limit least (fields-behind s i) ∙ h .stops _ in
       sym (c .gives ∙ rw e (omega arith))
@@ -87,8 +88,8 @@ module _ {s : Bytes} {at number limit least count i : ℕ} (c : Counting s at nu
     pub counting-more : (eqb number 6 && ltb v least) ≡ false → v < 100000 → Counting s at number limit (v + 1) (count + 1) after
     counting-more e small =
         let q : numbers-passing number limit least (fields-behind s i) ≡ suc (numbers-passing number limit (suc v) (fields-behind s after)) =
-            numbers-step number limit least (fields-behind s i)
-            ∙ passed-on (passed-both (rising number least) p (rising-as number least v ∙ rw e)) _ refl in
+        numbers-step number limit least (fields-behind s i)
+        ∙ passed-on (passed-both (rising number least) p (rising-as number least v ∙ rw e)) _ refl in
         record {
           gives = c .gives ∙ rw (q, add-one v) (omega arith);
           behind = p .field .behind;

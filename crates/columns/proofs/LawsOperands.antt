@@ -92,8 +92,9 @@ module _ {test : Operand → Bool} {s : Bytes} {i : ℕ} {us : List Operand} whe
   unfolding operands-of any
   left-none l =
       let z : l .others ≡ [] =
-          let w : _≡_ {A = Read (List Operand)} (record { value = []; rest = fields-behind s i }) (record { value = l .others; rest = l .ahead .rest }) = let e = l .ahead .says in cc in
-          ap (λ (x : Read (List Operand)). x .value) (sym w) in
+      let w : _≡_ {A = Read (List Operand)} (record { value = []; rest = fields-behind s i }) (record { value = l .others; rest = l .ahead .rest }) =
+      let e = l .ahead .says in cc in
+      ap (λ (x : Read (List Operand)). x .value) (sym w) in
       sym (l .same ∙ ap (any test) z)
 
   module _ {n : ℕ} {u : Operand} {after : ℕ} (next-one : NextOperand s i u after) where
@@ -106,7 +107,9 @@ module _ {test : Operand → Bool} {s : Bytes} {i : ℕ} {us : List Operand} whe
 
     pub left-more : Left test s i (suc n) us → test u ≡ false → Left test s after n us
     unfolding any
-    left-more l t = let o = off l in record { others = o .others; ahead = record { rest = o .rest; says = o .says }; same = l .same ∙ ap (any test) (o .whole) ∙ rw t }
+    left-more l t =
+        let o = off l in
+        record { others = o .others; ahead = record { rest = o .rest; says = o .says }; same = l .same ∙ ap (any test) (o .whole) ∙ rw t }
 
 -- the search, `done` operands behind `at`
 pub record Searching (test : Operand → Bool) (s : Bytes) (at count done i : ℕ) : Type 0 where
@@ -272,7 +275,10 @@ module _ {sought : Sought} {s : Bytes} {first n count i : ℕ} (g : Grouped soug
 
       pub name-stops : Shown name-of (name-test sought (g .us)) s i → GroupShown sought s at (1 + 2 * count)
       unfolding operands-passing
-      name-stops e = record { stops = λ more. whole more (g .gives more ∙ ap (λ (k : ℕ). 2 * count + k) {y = 0} (rw one-left (e .stops _))) ∙ (omega arith); few = omega arith }
+      name-stops e = record {
+        stops = λ more. whole more (g .gives more ∙ ap (λ (k : ℕ). 2 * count + k) {y = 0} (rw one-left (e .stops _))) ∙ (omega arith);
+        few = omega arith;
+      }
 
       module _ (c : ℕ) {mid : ℕ} (name : Passed name-of (name-test sought (g .us)) s i (name-of-code c) mid) where
         pub register-stops : Shown allocation-of (register-test sought (g .us) (name-of-code c)) s mid → GroupShown sought s at (2 + 2 * count)
@@ -291,9 +297,12 @@ module _ {sought : Sought} {s : Bytes} {first n count i : ℕ} (g : Grouped soug
               us = g .us ++ (u ∷ []);
               so-far = λ m.
                   let e : count + 1 + m ≡ count + suc m = omega arith in
-                  rw e (g .so-far (suc m) ∙ rw (name .field .says, reg .field .says, put-one u (operands-of m (fields-behind s after))) (put-last (g .us) u (operands-of m (fields-behind s after))));
+                  let o = operands-of m (fields-behind s after) in
+                  rw e (g .so-far (suc m) ∙ rw (name .field .says, reg .field .says, put-one u o) (put-last (g .us) u o));
               gives = λ more.
-                  let k : ℕ = operands-passing (sought .number) (counted (sought .counts)) (sought .defs) (n - (count + 1)) (g .us ++ (u ∷ [])) (fields-behind s after) more in
+                  let us = g .us ++ (u ∷ []) in
+                  let S = counted (sought .counts) in
+                  let k : ℕ = operands-passing (sought .number) S (sought .defs) (n - (count + 1)) us (fields-behind s after) more in
                   g .gives more ∙ ap (λ (k : ℕ). 2 * count + k) {y = suc (suc k)} (rw one-left (passed-on name _ (passed-on reg _ refl))) ∙ (omega arith);
               behind = reg .field .behind;
               few = omega arith;

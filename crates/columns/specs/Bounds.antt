@@ -1,6 +1,6 @@
 -- No more fields pass than there are, so a field that is named is at most one behind the line's last.
 use mathlib.Core.Path.{_≡_, ap, _∙_}
-use mathlib.Core.Bool.{Bool, true, false, cond}
+use mathlib.Core.Bool.{Bool, true, false, cond, _&&_}
 use mathlib.Core.List.{List, [], _∷_}
 use mathlib.Core.Option.{Option, none, some, Option·map}
 use Prim.Native.Nat.{ℕ, zero, suc, _+_, _-_, _≤_, _<_}
@@ -11,8 +11,16 @@ use Rattle.lists.specs.Split.{by-test}
 use Rattle.paper.specs.Text.{Bytes, tab, number-of, name-of, onto-first, parts, fields}
 use Rattle.paper.specs.Sheet.{Operand, Sheet}
 use Rattle.paper.specs.Limits.{max-succs}
-use Rattle.paper.specs.Refusals.{Read, next, one-byte, allocation-of, onward, passing, numbers-passing, function-passing, typed-passing, block-passing, pair-passing, change-passing, operands-passing, group-passing, operation-passing, safepoint-passing, field-by-letter, field-shown, names-field, field-of}
+use Rattle.paper.specs.Refusals.{Read, next, one-byte, allocation-of, onward, passing, within, rising, numbers-passing, function-passing, typed-passing, block-passing, pair-passing, change-passing, operands-passing, group-passing, operation-passing, safepoint-passing, field-by-letter, field-shown, names-field, field-of}
 use Rattle.fields.specs.Fields.{until, ends-line, line-at, fields-behind}
+
+-- what the first field was read as, before the others
+abbrev pub before-others : {A : Type 0} → List Bytes → Option A → Option (Read A)
+before-others fs o = Option·map (λ a. record { value = a; rest = fs }) o
+
+-- the test of one of several numbers
+abbrev pub number-test : (number limit least : ℕ) → ℕ → Bool
+number-test number limit least = λ n. within number limit n && rising number least n
 
 passing-most : {A : Type 0} (read : Bytes → Option A) (test : A → Bool) (fs : List Bytes) (more : A → List Bytes → ℕ)
     → ((a : A) (rest : List Bytes) → more a rest ≤ length rest) → passing read test fs more ≤ length fs
@@ -20,7 +28,7 @@ unfolding passing onward next
 passing-most read test [] more h = omega arith
 passing-most {A} read test (f ∷ fs) more h = go (read f)
   where
-    go : (o : Option A) → onward test more (Option·map (λ a. record { value = a; rest = fs }) o) ≤ suc (length fs)
+    go : (o : Option A) → onward test more (before-others fs o) ≤ suc (length fs)
     go none = omega arith
     go (some a) = by-test (test a) (λ t. rw t (omega (arith, h a fs))) λ t. rw t (omega arith)
 
@@ -34,7 +42,7 @@ module _ (number : ℕ) where
   numbers-most limit least (f ∷ fs) = go _ (number-of f) (λ n. numbers-most limit (suc n) fs)
     where
       go : (test : ℕ → Bool) (o : Option ℕ) → ((n : ℕ) → numbers-passing number limit (suc n) fs ≤ length fs)
-          → onward test (λ n rest. numbers-passing number limit (suc n) fs) (Option·map (λ a. record { value = a; rest = fs }) o) ≤ suc (length fs)
+          → onward test (λ n rest. numbers-passing number limit (suc n) fs) (before-others fs o) ≤ suc (length fs)
       go test none h = omega arith
       go test (some n) h = by-test (test n) (λ t. rw t (omega (arith, h n))) λ t. rw t (omega arith)
 
@@ -94,7 +102,7 @@ module _ (number : ℕ) where
     two-more : (n m : ℕ) → n ≤ m → 2 + n ≤ 2 + m
     two-more n m h = omega arith
 
-    by-letter-most : (letter : ℕ) (fs : List Bytes) → field-by-letter number S letter fs ≤ 2 + length fs
+    pub by-letter-most : (letter : ℕ) (fs : List Bytes) → field-by-letter number S letter fs ≤ 2 + length fs
     unfolding field-by-letter
     by-letter-most letter fs =
         one (eqb letter 70) (two-more _ _ (function-most fs))

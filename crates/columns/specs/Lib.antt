@@ -1,2 +1,5 @@
 pub mod Columns
 pub mod Bounds
+pub mod Agreeing
+pub mod Unbroken
+pub mod Theorems

@@ -286,7 +286,8 @@ fn passing_group(s: &[u8], at: usize, sought: Sought) -> Group
         let Number::Value(name, middle) = operand_name(s, i, first, count, sought) else {
             return Group::Shows(1 + 2 * count);
         };
-        let Number::Value(register, next) = operand_register(s, middle, first, count, name, sought) else {
+        let Number::Value(register, next) = operand_register(s, middle, first, count, name, sought)
+        else {
             return Group::Shows(2 + 2 * count);
         };
         count += 1;
@@ -329,7 +330,10 @@ fn passing_operation(s: &[u8], at: usize, number: u8, counts: Counts) -> usize
             );
             match defs {
                 Group::Shows(shown) => 1 + count + shown,
-                Group::Passes { count: more, next: end } => 1 + count + more,
+                Group::Passes {
+                    count: more,
+                    next: end,
+                } => 1 + count + more,
             }
         }
     }

@@ -75,7 +75,10 @@ unfolding line-end
 further sheet at = omega arith
 
 module _ {sheet : Bytes} {at line : ℕ} {words₀ words : List ℕ} (ahead : Ahead sheet at line words₀ words) (more : at < length sheet) where
-  next-line : read sheet ≡ carry-on line (λ number. field-of number (so-far-of (so-far words)) (fields (line-at sheet at))) (read-record (so-far words) (record-of (fields (line-at sheet at)))) (λ S. read-lines (suc line) (some S) (lines (drop (line-end sheet at + 1) sheet)))
+  next-line : read sheet
+      ≡ carry-on line (λ number. field-of number (so-far-of (so-far words)) (fields (line-at sheet at)))
+      (read-record (so-far words) (record-of (fields (line-at sheet at))))
+      (λ S. read-lines (suc line) (some S) (lines (drop (line-end sheet at + 1) sheet)))
   unfolding read-lines read-line
   next-line = ahead .gives ∙ rw (lines-at sheet at more)
 
@@ -111,9 +114,10 @@ module _ {sheet : Bytes} {at line : ℕ} {words₀ words : List ℕ} (ahead : Ah
     line-bad {refusal} b =
         let same : words′ ≡ words = r .bad-line (breach .number) refused-by in
         let e : refusal .field ≡ field-of (breach .number) (so-far-of (so-far words)) (fields (line-at sheet at)) =
-            b .field-is (so-far-of (so-far words)) (rw same (so-far-counted words (ahead .progress) _ refl)) in
-        let whole : _≡_ {A = Refusal} (record { number = breach .number; line = line; field = field-of (breach .number) (so-far-of (so-far words)) (fields (line-at sheet at)) }) refusal =
-            rw (← e, ← b .number-is, ← b .line-is) refl in
+        b .field-is (so-far-of (so-far words)) (rw same (so-far-counted words (ahead .progress) _ refl)) in
+        let field : ℕ = field-of (breach .number) (so-far-of (so-far words)) (fields (line-at sheet at)) in
+        let whole : _≡_ {A = Refusal} (record { number = breach .number; line = line; field = field }) refusal =
+        rw (← e, ← b .number-is, ← b .line-is) refl in
         refused-load (next-line ∙ rw refused-by (ap refused whole)) (r .same-length ∙ ahead .same-length)
 
 -- the end

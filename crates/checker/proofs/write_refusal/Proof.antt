@@ -7,7 +7,7 @@ use borrow.Author.Needs.{needs}
 use Rattle.checker.proofs.write_refusal.Statement.{statement}
 use Rattle.checker.proofs.write_refusal.Tie as tie
 
--- the places: behind the letter, the number and the line
+-- the places: behind the letter, the number, the line and the field
 abbrev letter-of : tie.After-struct-known → tie.After-write-byte
 letter-of c = c .before .before .before .before
 
@@ -17,8 +17,11 @@ start-of c = c .before .before .before
 abbrev number-of : tie.After-struct-known2 → tie.After-write-before-number
 number-of c = c .before .before .before .before
 
-abbrev line-of : tie.After-write-byte-arg2 → tie.After-write-before-number2
-line-of c = c .before .before .before
+abbrev line-of : tie.After-struct-known3 → tie.After-write-before-number2
+line-of c = c .before .before .before .before
+
+abbrev field-of : tie.After-write-byte-arg2 → tie.After-write-before-number3
+field-of c = c .before .before .before
 
 write-byte-requires : tie.Need-write-byte-requires
 write-byte-requires c κs = search needs
@@ -41,8 +44,11 @@ write-before-number-requires-2 c κs =
     let refusal = start-of a .args .refusal in
     omega (arith, length-wrote (a .write-byte .ensures), length-wrote (b .write-before-number .ensures), length-digits (refusal .number), length-digits (refusal .line))
 
-write-byte-requires-2 : tie.Need-write-byte-requires-2
-write-byte-requires-2 c κs =
+cast-write-before-number-3 : tie.Need-cast-write-before-number-3
+cast-write-before-number-3 c = omega (arith, start-of (letter-of (number-of (line-of c .before) .before)) .pre .0)
+
+write-before-number-requires-3 : tie.Need-write-before-number-requires-3
+write-before-number-requires-3 c κs =
     let l = line-of c in
     let b = number-of (l .before) in
     let a = letter-of (b .before) in
@@ -54,6 +60,25 @@ write-byte-requires-2 c κs =
       length-wrote (l .write-before-number2 .ensures),
       length-digits (refusal .number),
       length-digits (refusal .line),
+      length-digits (refusal .field),
+    )
+
+write-byte-requires-2 : tie.Need-write-byte-requires-2
+write-byte-requires-2 c κs =
+    let f = field-of c in
+    let l = line-of (f .before) in
+    let b = number-of (l .before) in
+    let a = letter-of (b .before) in
+    let refusal = start-of a .args .refusal in
+    omega (
+      arith,
+      length-wrote (a .write-byte .ensures),
+      length-wrote (b .write-before-number .ensures),
+      length-wrote (l .write-before-number2 .ensures),
+      length-wrote (f .write-before-number3 .ensures),
+      length-digits (refusal .number),
+      length-digits (refusal .line),
+      length-digits (refusal .field),
     )
 
 same-length : tie.Need-same-length
@@ -62,11 +87,14 @@ same-length c = search needs
 returns : tie.Need-returns
 returns c =
     let e = c .before .before in
-    let l = line-of (e .before) in
+    let f = field-of (e .before) in
+    let l = line-of (f .before) in
     let b = number-of (l .before) in
     let a = letter-of (b .before) in
     refusal-wrote (start-of a .args .refusal)
-    (then (then (then (a .write-byte .ensures) (b .write-before-number .ensures)) (l .write-before-number2 .ensures)) (e .write-byte2 .ensures))
+    (then
+    (then (then (then (a .write-byte .ensures) (b .write-before-number .ensures)) (l .write-before-number2 .ensures)) (f .write-before-number3 .ensures))
+    (e .write-byte2 .ensures))
 
 pub write-refusal-spec : {M : Type 1} → statement M
 write-refusal-spec =
@@ -77,6 +105,8 @@ write-refusal-spec =
     write-before-number-requires
     cast-write-before-number-2
     write-before-number-requires-2
+    cast-write-before-number-3
+    write-before-number-requires-3
     write-byte-requires-2
     same-length
     returns)

@@ -105,7 +105,8 @@ returns-4 c =
     let k = n .before in
     sym
     (passed-on (regs (regs-at (slots-at k))) _
-    (passed-on (slots (slots-at k)) _ (passed-on (vregs k) _ (shown-first _ (number-shows _ _ (n .passing-number4 .ensures) (c .enum-told4 .given .1)) .stops _))))
+    (passed-on (slots (slots-at k)) _
+    (passed-on (vregs k) _ (shown-first _ (number-shows _ _ (n .passing-number4 .ensures) (c .enum-told4 .given .1)) .stops _))))
 
 returns-5 : tie.Need-returns-5
 unfolding function-passing

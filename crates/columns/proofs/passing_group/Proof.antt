@@ -40,14 +40,18 @@ many c = number-passes _ _ (c .before .before .before .passing-number .ensures) 
 -- the name and the register that a turn reads
 name : (c : tie.After-known-told2 Inv-loop μ-loop) → let t = turn-of c in let a = start-of (counted-at t) .args in let v = c .before .name .given .0 in
     Passed name-of (name-test (a .sought) (t .before .loop .inv .us)) (a .s .now) (t .before .loop .i) (name-of-code (v .0)) (v .1 .0)
-name c = let t = turn-of c in name-passed _ _ (c .before .before .before .operand-name .ensures (t .before .loop .inv .us) (those-before (t .before .loop .inv))) (c .before .name .given .1)
+name c =
+    let g = turn-of c .before .loop .inv in
+    name-passed _ _ (c .before .before .before .operand-name .ensures (g .us) (those-before g)) (c .before .name .given .1)
 
-register : (c : tie.After-known-told3 Inv-loop μ-loop) → let k = named-at c in let t = turn-of k in let a = start-of (counted-at t) .args in let v = c .before .register .given .0 in
-    Passed allocation-of (register-test (a .sought) (t .before .loop .inv .us) (name-of-code (k .before .name .given .0 .0))) (a .s .now) (k .before .name .given .0 .1 .0)
+register : (c : tie.After-known-told3 Inv-loop μ-loop)
+    → let k = named-at c in let t = turn-of k in let a = start-of (counted-at t) .args in let v = c .before .register .given .0 in
+    let name = k .before .name .given .0 in
+    Passed allocation-of (register-test (a .sought) (t .before .loop .inv .us) (name-of-code (name .0))) (a .s .now) (name .1 .0)
     (register-of-code (v .0)) (v .1 .0)
 register c =
-    let t = turn-of (named-at c) in
-    register-passed _ _ _ (c .before .before .before .operand-register .ensures (t .before .loop .inv .us) (those-before (t .before .loop .inv))) (c .before .register .given .1)
+    let g = turn-of (named-at c) .before .loop .inv in
+    register-passed _ _ _ (c .before .before .before .operand-register .ensures (g .us) (those-before g)) (c .before .register .given .1)
 
 passing-number-requires : tie.Need-passing-number-requires Inv-loop μ-loop
 passing-number-requires c κs = search needs

@@ -23,7 +23,8 @@ add-behind : tie.Need-add-behind
 add-behind c = let o = start-of c .pre in omega (arith, o .inside, o .size)
 
 -- the place behind a letter
-ready : (c : tie.After-shared-slice-known) (letter : ℕ) → start-of c .args .letter ≡ letter → (letter ≡ 0 → ⊥) → let a = start-of c .args in Behind (a .s .now) (a .at + 1)
+ready : (c : tie.After-shared-slice-known) (letter : ℕ) → start-of c .args .letter ≡ letter → (letter ≡ 0 → ⊥)
+    → let a = start-of c .args in Behind (a .s .now) (a .at + 1)
 ready c letter is some = behind-its-letter (start-of c .pre) (λ z. some (sym is ∙ z))
 
 -- what is counted behind it is few
@@ -36,8 +37,9 @@ told : (c : tie.After-shared-slice-known) (letter : ℕ) → start-of c .args .l
     → let a = start-of c .args in n ≡ field-by-letter (a .number) S letter (fields-behind (a .s .now) (a .at + 1))
     → n ≡ field-shown (a .number) S (fields (line-at (a .s .now) (a .at)))
 told c letter is some S e =
-    let o : Opening (start-of c .args .s .now) (start-of c .args .at) letter = subst (Opening (start-of c .args .s .now) (start-of c .args .at)) is (start-of c .pre) in
-    e ∙ by-its-letter o (start-of c .args .number) S some
+    let a = start-of c .args in
+    let o : Opening (a .s .now) (a .at) letter = subst (Opening (a .s .now) (a .at)) is (start-of c .pre) in
+    e ∙ by-its-letter o (a .number) S some
 
 passing-function-requires : tie.Need-passing-function-requires
 passing-function-requires c κs = ready (c .before) 70 (c .match .keys1) λ z. omega arith
