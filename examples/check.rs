@@ -46,7 +46,7 @@ mod itanropen {
     impl Buffers {
         pub fn new() -> Buffers {
             Buffers {
-                report: vec![0; 32_784],
+                report: vec![0; 33_104],
                 words: vec![0; 32_768],
                 queue: vec![0; 16_385],
             }

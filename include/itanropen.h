@@ -20,7 +20,7 @@ extern "C" {
 /* 1. Sizes. Each is a count of ELEMENTS of the buffer that it is named after, never of bytes: the words are 16 bits wide, so that
  * ITANROPEN_WORDS_COUNT words are 65,536 bytes. A shorter buffer is refused (refusal 1); a longer one is taken whole.
  */
-#define ITANROPEN_REPORT_COUNT ((size_t)32784) /* elements of uint8_t */
+#define ITANROPEN_REPORT_COUNT ((size_t)33104) /* elements of uint8_t */
 #define ITANROPEN_WORDS_COUNT ((size_t)32768)  /* elements of uint16_t */
 #define ITANROPEN_QUEUE_COUNT ((size_t)16385)  /* elements of uint8_t */
 
@@ -75,8 +75,11 @@ typedef struct itanropen_buffers {
  * - refused: number, line and field are those of document 01's table as document 02, A4, amends it (crates/paper/specs/Refusals.antt);
  *   the report is as it was;
  * - accepted or faulty: the first `length` bytes of the report are its text, and later bytes are as they were. No zero byte ends it;
- * - accepted under the house rule exactly where the sheet is read and document 01's sentence on acceptance holds of it; then the
- *   original and the allocated program read equal values at every use on every walk (`export-exactly`, `export-accepted`);
+ * - accepted under the house rule exactly where the sheet is read and document 01's sentence on acceptance holds of it, as document 02,
+ *   A5, amends it; then the original and the allocated program read equal values at every use on every walk (`export-exactly`,
+ *   `export-accepted`);
+ * - under the house rule a report has a line `N b` exactly where no allocation is missing and no walk comes to block b, in the place of
+ *   that block's faults (`export-named`): an accepted report may be longer than its header;
  * - the call returns, and reads and writes no element outside what it is lent.
  *
  * The caller:

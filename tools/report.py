@@ -9,6 +9,7 @@ HEADER = re.compile(rb'R\t(old|house)\t' + NUMBER)
 REFUSAL = re.compile(rb'X\t' + NUMBER + rb'\t' + NUMBER + rb'\t' + NUMBER)
 LINES = [  # a line behind the header: its shape, and whether the header counts it
     (re.compile(rb'E(\t[^\t\n]+){7}'), True),
+    (re.compile(rb'N\t' + NUMBER), False),
 ]
 ACCEPTED, FAULTY, REFUSED = 0, 1, 2
 

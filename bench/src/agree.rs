@@ -1,6 +1,6 @@
 //! Before anything is timed: the answers of both sides to every function are the same.
 
-use crate::house::house_faults;
+use crate::house::{house_faults, named};
 use crate::old;
 use crate::ours::{Ours, Verdict, ACCEPTED, REFUSED};
 use crate::parts::{Choice, Function};
@@ -25,7 +25,8 @@ pub fn all(functions: &[Function], ours: &mut Ours) -> Result<Counts, String> {
     let mut counts = Counts::default();
     for (index, function) in functions.iter().enumerate() {
         let rust = old::check(&function.sheet, true);
-        let house = house_faults(&function.sheet, Wrong::Nothing).0;
+        let (house, states) = house_faults(&function.sheet, Wrong::Nothing);
+        let unreached = named(&function.sheet, &states, Wrong::Nothing);
         let said = |same: bool, what: &str| {
             if same {
                 Ok(())
@@ -33,17 +34,17 @@ pub fn all(functions: &[Function], ours: &mut Ours) -> Result<Counts, String> {
                 Err(format!("function {}: {} differs", index, what))
             }
         };
-        said(same(function, ours, false, &rust.faults), "the old answer")?;
-        said(same(function, ours, true, &house), "the house answer")?;
+        said(same(function, ours, false, &rust.faults, &[]), "the old answer")?;
+        said(same(function, ours, true, &house, &unreached), "the house answer")?;
         said(is_read_wholly(function, ours), "the answer to the sheet with an empty line")?;
         counts.add(function, rust.faults.is_empty(), house.is_empty(), rust.visits);
     }
     Ok(counts)
 }
 
-fn same(function: &Function, ours: &mut Ours, house: bool, faults: &[Fault]) -> bool {
+fn same(function: &Function, ours: &mut Ours, house: bool, faults: &[Fault], unreached: &[usize]) -> bool {
     let verdict = ours.check(house, &function.text);
-    let text = report(if house { "house" } else { "old" }, faults);
+    let text = report(if house { "house" } else { "old" }, faults, unreached, Wrong::Nothing);
     let accepted = verdict.answer == ACCEPTED;
     verdict.answer != REFUSED && accepted == faults.is_empty() && ours.report(verdict) == text
 }

@@ -1,6 +1,6 @@
 //! The product's exported function, and the buffers that are lent to it.
 
-pub const REPORT_SIZE: usize = 32_784;
+pub const REPORT_SIZE: usize = 33_104;
 pub const WORDS_SIZE: usize = 32_768;
 pub const QUEUE_SIZE: usize = 16_385;
 

@@ -43,8 +43,10 @@ extern "C" {
 fn lengths(n: u64, seed: u64) {
     let all: Vec<usize> = (0..n)
         .map(|index| {
-            let (faults, _) = house::house_faults(&generate::timed(seed, index), plain::Wrong::Nothing);
-            report::report("house", &faults).len()
+            let sheet = generate::timed(seed, index);
+            let (faults, states) = house::house_faults(&sheet, plain::Wrong::Nothing);
+            let unreached = house::named(&sheet, &states, plain::Wrong::Nothing);
+            report::report("house", &faults, &unreached, plain::Wrong::Nothing).len()
         })
         .collect();
     println!("{} {}", all.iter().sum::<usize>() / all.len(), all.iter().max().unwrap());

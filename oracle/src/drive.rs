@@ -105,6 +105,9 @@ pub struct Counts {
     lines: [[usize; 8]; 2],
     house_only: usize,
     old_only: usize,
+    /// Sheets whose house report names an unreached block: accepted, and with a fault; and the blocks named.
+    named: [usize; 2],
+    named_blocks: usize,
     /// Sheets that are read and in which an inst falls.
     falling: usize,
     /// For each order of `ORDERS`: sheets whose old report changes, sheets whose old entry states do.
@@ -163,6 +166,8 @@ impl Counts {
             lines: [[0; 8]; 2],
             house_only: 0,
             old_only: 0,
+            named: [0; 2],
+            named_blocks: 0,
             falling: 0,
             orders: [[0; 2]; 4],
         }
@@ -195,6 +200,9 @@ impl Counts {
         }
         self.old_only += (accepted[0] && !accepted[1]) as usize;
         self.house_only += (!accepted[0] && accepted[1]) as usize;
+        let named = String::from_utf8_lossy(&answers[1]).lines().filter(|line| line.starts_with('N')).count();
+        self.named[!accepted[1] as usize] += (named > 0) as usize;
+        self.named_blocks += named;
         for (at, (_, wrong)) in ORDERS.iter().enumerate() {
             let [report, states] = sensitive(sheet, answers, *wrong);
             self.orders[at][0] += report as usize;
@@ -238,6 +246,7 @@ impl Counts {
         }
         println!("accepted by the old rule alone: {}", self.old_only);
         println!("accepted by the house rule alone: {}", self.house_only);
+        println!("house reports that name an unreached block: {} accepted, {} faulty; {} blocks", self.named[0], self.named[1], self.named_blocks);
         println!("read, though an inst falls: {}", self.falling);
         println!("old answers that change with the order of the run:");
         for (at, (name, _)) in ORDERS.iter().enumerate() {

@@ -1,8 +1,8 @@
 //! Frames (a line `#` and a decimal length, then that many bytes) and the five answers to a sheet.
 
-use crate::house::house_faults;
+use crate::house::{house_faults, named};
 use crate::old;
-use crate::plain::{missing, old_faults, State, Wrong};
+use crate::plain::{missing, old_faults, unreached, State, Wrong};
 use crate::report::{refusal, report, states};
 use crate::seals::sealed;
 use crate::sheet::{read_with, Sheet};
@@ -45,12 +45,16 @@ fn read_answers(sheet: &Sheet, old: Old, wrong: Wrong) -> Answers {
         _ => rust_old_answer(sheet, old),
     };
     let (house_answer, house_states) = match missing {
-        Some(faults) => (report("house", &faults), Vec::new()),
+        Some(faults) => {
+            let beside = if wrong == Wrong::NamedBesideMissing { unreached(sheet) } else { Vec::new() };
+            (report("house", &faults, &beside, wrong), Vec::new())
+        }
         None => {
             let (faults, list) = house_faults(sheet, wrong);
+            let answer = report("house", &faults, &named(sheet, &list, wrong), wrong);
             let marked: Vec<(char, State)> =
                 list.into_iter().map(|(v, s)| (if v { '1' } else { '0' }, s)).collect();
-            (report("house", &faults), states(&marked))
+            (answer, states(&marked))
         }
     };
     let sealed_answer = sealed(&house_answer);
@@ -65,10 +69,11 @@ fn old_state_lines(list: Vec<State>) -> Vec<u8> {
 /// The old report and entry states of a read sheet by the plain implementation.
 pub fn plain_old_answer(sheet: &Sheet, wrong: Wrong) -> (Vec<u8>, Vec<u8>) {
     match missing(sheet) {
-        Some(faults) => (report("old", &faults), Vec::new()),
+        Some(faults) => (report("old", &faults, &[], wrong), Vec::new()),
         None => {
             let (faults, list) = old_faults(sheet, wrong);
-            (report("old", &faults), old_state_lines(list))
+            let named = if wrong == Wrong::OldNamed { unreached(sheet) } else { Vec::new() };
+            (report("old", &faults, &named, wrong), old_state_lines(list))
         }
     }
 }
@@ -80,7 +85,7 @@ fn rust_old_answer(sheet: &Sheet, old: Old) -> (Vec<u8>, Vec<u8>) {
         None if outcome.missing => Vec::new(),
         None => old_state_lines(old_faults(sheet, Wrong::Nothing).1),
     };
-    (report("old", &outcome.faults), lines)
+    (report("old", &outcome.faults, &[], Wrong::Nothing), lines)
 }
 
 pub fn write_frame(out: &mut dyn Write, bytes: &[u8]) -> io::Result<()> {

@@ -1,5 +1,5 @@
-//! The generator of well-formed sheets: small, tangled, knotted, ordered, large, allocated, repaired, and allocated with one wrong
-//! step. While it writes steps it keeps a guess of the cells, so that checks often pass.
+//! The generator of well-formed sheets: small, tangled, knotted, ordered, large, allocated, repaired, allocated with one wrong step, and
+//! with many unreached blocks. While it writes steps it keeps a guess of the cells, so that checks often pass.
 
 use crate::columns::columns;
 use crate::damage;
@@ -11,11 +11,11 @@ use crate::sheet::{
     read, Block, Name, Operand, Sheet, Step, BLOCKS_LIMIT, INST_LIMIT, OPERANDS_LIMIT, REGS_LIMIT, SLOTS_LIMIT, STEPS_LIMIT, SUCCS_LIMIT, VREGS_LIMIT,
 };
 
-pub const KINDS: [&str; 12] = [
+pub const KINDS: [&str; 13] = [
     "small", "tangled", "knotted", "ordered", "large", "allocated", "repaired", "wrong-step",
-    "limits", "damaged", "several", "columns",
+    "limits", "damaged", "several", "columns", "unreached",
 ];
-const WEIGHTS: [usize; 12] = [210, 78, 88, 70, 4, 53, 70, 79, 38, 100, 100, 110];
+const WEIGHTS: [usize; 13] = [210, 78, 88, 70, 4, 53, 70, 79, 38, 100, 100, 110, 220];
 
 /// The sheet of a seed and an index, with its kind.
 pub fn generate(seed: u64, index: u64) -> (usize, Vec<u8>) {
@@ -30,6 +30,7 @@ pub fn generate(seed: u64, index: u64) -> (usize, Vec<u8>) {
         "allocated" => allocated(random),
         "repaired" => repaired(random),
         "wrong-step" => wrong_step(random),
+        "unreached" => unreached(random),
         "limits" => return (kind, damage::limits(random)),
         "damaged" => return (kind, damage::damaged(random)),
         "several" => return (kind, damage::several(random)),
@@ -689,6 +690,27 @@ fn mend(sheet: &mut Sheet, fault: &Fault) {
 pub fn wrong_step(random: &mut Random) -> Sheet {
     let sheet = if random.percent(50) { allocated(random) } else { repaired(random) };
     changed(random, sheet)
+}
+
+/// A sheet of another kind with edges cut, so that walks come to few of its blocks. Of the others many lose their steps.
+pub fn unreached(random: &mut Random) -> Sheet {
+    let mut sheet = match random.below(5) {
+        0 => small(random),
+        1 => tangled(random),
+        2 => allocated(random),
+        3 => wrong_step(random),
+        _ => repaired(random),
+    };
+    let (cut, emptied) = (*random.pick(&[20, 50, 80, 100]), *random.pick(&[0, 30, 70]));
+    for block in &mut sheet.blocks {
+        block.succs.retain(|_| !random.percent(cut));
+    }
+    for block in crate::plain::unreached(&sheet) {
+        if random.percent(emptied) {
+            sheet.blocks[block].steps.clear();
+        }
+    }
+    sheet
 }
 
 /// The sheet with one thing changed.

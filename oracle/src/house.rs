@@ -83,7 +83,7 @@ fn run(sheet: &Sheet, wrong: Wrong) -> Vec<Option<State>> {
     states
 }
 
-/// The house rule's faults, and the entry states with their visited marks.
+/// The house rule's faults, and the entry states with their visited marks. A block that no walk comes to is not checked.
 pub fn house_faults(sheet: &Sheet, wrong: Wrong) -> (Vec<Fault>, Vec<(bool, State)>) {
     let states: Vec<(bool, State)> = run(sheet, wrong)
         .into_iter()
@@ -95,8 +95,17 @@ pub fn house_faults(sheet: &Sheet, wrong: Wrong) -> (Vec<Fault>, Vec<(bool, Stat
     let entry_states: Vec<State> = states.iter().map(|(_, state)| state.clone()).collect();
     let effect = |step: &Step, state: &mut State| house_effect(sheet, step, state, wrong);
     let mut faults = find_faults(sheet, &entry_states, effect, wrong);
-    if wrong == Wrong::UnreachedSkipped {
+    if wrong != Wrong::UnreachedChecked {
         faults.retain(|fault| states[fault.block].0);
     }
     (faults, states)
+}
+
+/// The blocks that the house report names, where no allocation is missing: those that were not visited.
+pub fn named(sheet: &Sheet, states: &[(bool, State)], wrong: Wrong) -> Vec<usize> {
+    let all = |block: &usize| wrong != Wrong::EmptyUnnamed || !sheet.blocks[*block].steps.is_empty();
+    match wrong {
+        Wrong::UnreachedChecked => Vec::new(),
+        _ => (0..states.len()).filter(|block| !states[*block].0).filter(all).collect(),
+    }
 }

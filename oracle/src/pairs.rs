@@ -37,6 +37,10 @@ fn is_fault(fields: &[&str]) -> bool {
     }
 }
 
+fn is_unreached(fields: &[&str]) -> bool {
+    fields.len() == 2 && fields[0] == "N" && is_number(fields[1])
+}
+
 /// The first bad line, if there is one. A byte beyond ASCII stands in no good field, whatever it is taken for.
 fn bad_line(report: &[u8]) -> Option<usize> {
     let text: String = report.iter().map(|&b| b as char).collect();
@@ -46,7 +50,7 @@ fn bad_line(report: &[u8]) -> Option<usize> {
         let fields: Vec<&str> = line.split('\t').collect();
         let good = match index {
             0 => fields.len() == 3 && fields[0] == "R" && (fields[1] == "old" || fields[1] == "house") && is_number(fields[2]),
-            _ => is_fault(&fields),
+            _ => is_fault(&fields) || is_unreached(&fields),
         };
         if !good {
             return Some(index + 1);
@@ -56,7 +60,8 @@ fn bad_line(report: &[u8]) -> Option<usize> {
         return Some(closed.len() + 1);
     }
     let count: usize = closed[0].split('\t').nth(2).unwrap().parse().unwrap();
-    if count != closed.len() - 1 { Some(1) } else { None }
+    let faults = closed.iter().filter(|line| line.starts_with('E')).count();
+    if count != faults { Some(1) } else { None }
 }
 
 /// What is written of two reports.
@@ -120,6 +125,15 @@ fn fault(random: &mut Random) -> String {
     format!("{}\t{}\t{}", start, kind, rest)
 }
 
+fn some_line(random: &mut Random) -> String {
+    if random.percent(30) { format!("N\t{}", number(random)) } else { fault(random) }
+}
+
+/// How many of the lines behind the header are faults.
+fn faults_in(lines: &[String]) -> usize {
+    lines.iter().skip(1).filter(|line| line.starts_with('E')).count()
+}
+
 fn joined(lines: &[String]) -> Vec<u8> {
     lines.iter().flat_map(|line| line.bytes().chain(std::iter::once(b'\n'))).collect()
 }
@@ -130,16 +144,17 @@ fn header(random: &mut Random, count: usize) -> String {
 
 fn report(random: &mut Random) -> Vec<String> {
     let count = *random.pick(&[0, 0, 1, 1, 2, 3, 5, 9, 11]);
-    let mut lines = vec![header(random, count)];
-    lines.extend((0..count).map(|_| fault(random)));
+    let mut lines = vec![String::new()];
+    lines.extend((0..count).map(|_| some_line(random)));
+    lines[0] = header(random, faults_in(&lines));
     lines
 }
 
-/// The header counts what stands behind it.
+/// The header counts the faults behind it.
 fn recounted(random: &mut Random, mut lines: Vec<String>) -> Vec<String> {
     if !lines.is_empty() && random.percent(70) {
         let rule = if lines[0].contains("old") { "old" } else { "house" };
-        lines[0] = format!("R\t{}\t{}", rule, lines.len() - 1);
+        lines[0] = format!("R\t{}\t{}", rule, faults_in(&lines));
     }
     lines
 }
@@ -168,7 +183,7 @@ pub fn some_report(random: &mut Random) -> Vec<u8> {
 
 pub fn byte(random: &mut Random) -> u8 {
     let odd = random.below(256) as u8;
-    *random.pick(&[b'\t', b'\n', b'\r', b' ', b'0', b'1', b'8', b'-', b'r', b'v', b's', b'E', 0, odd])
+    *random.pick(&[b'\t', b'\n', b'\r', b' ', b'0', b'1', b'8', b'-', b'r', b'v', b's', b'E', b'N', 0, odd])
 }
 
 /// A kind of pair, and the pair.
@@ -216,7 +231,7 @@ fn changed(random: &mut Random, kind: usize, mut lines: Vec<String>, first: &[u8
             return joined(&lines);
         }
         "lines behind" => {
-            lines.extend((0..2).map(|_| fault(random)));
+            lines.extend((0..2).map(|_| some_line(random)));
             return joined(&recounted(random, lines));
         }
         _ => {

@@ -17,8 +17,20 @@ pub enum Wrong {
     LaterFaults,
     /// No effect after a fault.
     SkipEffect,
-    /// Unreached blocks not checked.
+    /// Old: unreached blocks not checked.
     UnreachedSkipped,
+    /// Old: unreached blocks named.
+    OldNamed,
+    /// House: unreached blocks checked, and not named.
+    UnreachedChecked,
+    /// House: unreached blocks counted with the faults.
+    UnreachedCounted,
+    /// House: unreached blocks named behind all faults.
+    UnreachedLast,
+    /// House: unreached blocks without a step not named.
+    EmptyUnnamed,
+    /// House: unreached blocks named beside a missing allocation.
+    NamedBesideMissing,
     /// House: Unknown as the meet's neutral element.
     UnknownNeutral,
     /// House: stale copies made Unknown.
@@ -39,12 +51,18 @@ pub enum Wrong {
     ChangeMarks,
 }
 
-pub const WRONGS: [(&str, Wrong); 14] = [
+pub const WRONGS: [(&str, Wrong); 20] = [
     ("swap-five-six", Wrong::SwapFiveSix),
     ("last-field", Wrong::LastField),
     ("later-faults", Wrong::LaterFaults),
     ("skip-effect", Wrong::SkipEffect),
     ("unreached-skipped", Wrong::UnreachedSkipped),
+    ("old-named", Wrong::OldNamed),
+    ("unreached-checked", Wrong::UnreachedChecked),
+    ("unreached-counted", Wrong::UnreachedCounted),
+    ("unreached-last", Wrong::UnreachedLast),
+    ("empty-unnamed", Wrong::EmptyUnnamed),
+    ("named-beside-missing", Wrong::NamedBesideMissing),
     ("unknown-neutral", Wrong::UnknownNeutral),
     ("stale-unknown", Wrong::StaleUnknown),
     ("not-twice", Wrong::NotTwice),
@@ -330,6 +348,12 @@ pub fn reached(sheet: &Sheet) -> Vec<bool> {
         }
     }
     reached
+}
+
+/// The blocks that none comes to, in order.
+pub fn unreached(sheet: &Sheet) -> Vec<usize> {
+    let reached = reached(sheet);
+    (0..reached.len()).filter(|block| !reached[*block]).collect()
 }
 
 /// The old rule's faults and entry states.

@@ -1,6 +1,6 @@
 //! Faults and entry states, and how they are written.
 
-use crate::plain::{Cell, State};
+use crate::plain::{Cell, State, Wrong};
 use crate::sheet::Refusal;
 
 #[derive(Clone, Debug, PartialEq, Eq)]
@@ -14,16 +14,25 @@ pub struct Fault {
     pub actual: String,
 }
 
-/// The report's text: header and one line a fault.
-pub fn report(rule: &str, faults: &[Fault]) -> Vec<u8> {
-    let mut text = format!("R\t{}\t{}\n", rule, faults.len());
-    for f in faults {
-        text += &format!(
+impl Fault {
+    fn line(&self) -> String {
+        format!(
             "E\t{}\t{}\t{}\t{}\t{}\t{}\t{}\n",
-            f.block, f.place, f.inst, f.kind, f.at, f.expected, f.actual
-        );
+            self.block, self.place, self.inst, self.kind, self.at, self.expected, self.actual
+        )
     }
-    text.into_bytes()
+}
+
+/// The report's text: a header that counts the faults, then by block a line for each, and one for each block that is named as unreached.
+pub fn report(rule: &str, faults: &[Fault], unreached: &[usize], wrong: Wrong) -> Vec<u8> {
+    let mut lines: Vec<(usize, String)> = faults.iter().map(|fault| (fault.block, fault.line())).collect();
+    lines.extend(unreached.iter().map(|block| (*block, format!("N\t{}\n", block))));
+    if wrong != Wrong::UnreachedLast {
+        lines.sort_by_key(|(block, _)| *block);
+    }
+    let count = if wrong == Wrong::UnreachedCounted { lines.len() } else { faults.len() };
+    let text: String = lines.into_iter().map(|(_, line)| line).collect();
+    format!("R\t{}\t{}\n{}", rule, count, text).into_bytes()
 }
 
 /// A refusal's line.

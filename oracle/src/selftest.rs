@@ -61,8 +61,15 @@ pub const CASES: &[(&str, &str, &str)] = &[
         "E 1 0 0 4 s0 v0 -/E 2 0 1 4 s0 v1 -/",
         "E 1 0 0 4 s0 v0 -/E 2 0 1 4 s0 v1 -/",
     ),
-    // An unreached block.
-    ("F 1 0 1 2 0/B/B/O 9 1 v0 0 0/", "E 1 0 9 2 r0 - -/", "E 1 0 9 2 r0 - -/"),
+    // An unreached block: document 02, A5. Empty ones, one between two with a fault, one that misses an allocation.
+    ("F 1 0 1 2 0/B/B/O 9 1 v0 0 0/", "E 1 0 9 2 r0 - -/", "N 1/"),
+    ("F 0 0 0 3 1/B/B/B 1/", "", "N 0/N 2/"),
+    (
+        "F 1 0 1 3 0/B 2/O 0 1 v0 0 0/B/O 1 1 v0 0 0/B/O 2 1 v0 0 0/",
+        "E 0 0 0 3 r0 v0 r0/E 1 0 1 2 r0 - -/E 2 0 2 3 r0 v0 r0/",
+        "E 0 0 0 3 r0 v0 r0/N 1/E 2 0 2 3 r0 v0 r0/",
+    ),
+    ("F 1 0 1 3 0/B/B/B/O 0 1 v0 - 0/", "E 2 0 0 1 - v0 -/", "E 2 0 0 1 - v0 -/"),
     // Missing allocations: the first such step alone, its uses, or its defs when no use is missing.
     (
         "F 1 0 3 1 0/B/O 1 1 v0 0 0/O 2 3 v2 - v1 0 v0 - 1 v1 -/O 3 1 v0 - 0/",

@@ -218,7 +218,7 @@ fn cell_pairs(given: &Answers) -> Vec<(String, usize)> {
     old.iter().zip(&house).map(|(a, b)| (format!("cell {} {}", a, b), 2)).collect()
 }
 
-/// Graphs: unreached blocks with faults, loops, repeats, the entry.
+/// Graphs: unreached blocks with faults under the old rule, with steps and without, loops, repeats, the entry.
 fn shape_features(sheet: &[u8], given: &Answers) -> Vec<(String, usize)> {
     let mut list = Vec::new();
     let sheet = match read(sheet) {
@@ -230,12 +230,16 @@ fn shape_features(sheet: &[u8], given: &Answers) -> Vec<(String, usize)> {
             list.push((name.to_string(), 4));
         }
     };
-    let text = String::from_utf8_lossy(&given[1]).to_string();
+    let text = String::from_utf8_lossy(&given[0]).to_string();
     let reached = reached(&sheet);
+    let accepted = fault_kinds(&given[1]).is_empty();
+    add("accepted with an unreached block", accepted && reached.contains(&false));
     for (at, block) in sheet.blocks.iter().enumerate() {
         let succs = &block.succs;
         let faulty = text.contains(&format!("E\t{}\t", at));
         add("unreached and faulty", !reached[at] && faulty);
+        add("unreached and empty", !reached[at] && block.steps.is_empty());
+        add("unreached, with a fault behind it", !reached[at] && String::from_utf8_lossy(&given[1]).contains(&format!("N\t{}\nE", at)));
         add("a block its own successor", succs.contains(&(at as u32)));
         add("repeated successors", (1..succs.len()).any(|i| succs[..i].contains(&succs[i])));
         add("the entry a successor", reached[at] && succs.contains(&sheet.entry));

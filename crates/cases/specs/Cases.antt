@@ -106,9 +106,21 @@ whole-example = "F 2 1 1 1 0" ∷ "B" ∷ "O 7 0 1 v0 0" ∷ "S 0 0" ∷ "O 8 1 
 abbrev three-in-line : List String
 three-in-line = "F 0 1 3 3 0" ∷ "B 1" ∷ "B 2" ∷ "C 0 0 v0 v1" ∷ "B" ∷ "C 1 0 v1 v2" ∷ []
 
--- an unreached block whose first step has a use
+-- an unreached block whose first step has a use: document 02, A5, in place of kind 2
 abbrev unreached-use : List String
 unreached-use = "F 1 0 1 2 0" ∷ "B" ∷ "B" ∷ "O 0 1 v0 0 0" ∷ []
+
+-- unreached blocks with no step, before the entry and behind it
+abbrev unreached-empty : List String
+unreached-empty = "F 0 0 0 3 1" ∷ "B" ∷ "B" ∷ "B 1" ∷ []
+
+-- an unreached block between two with a fault
+abbrev unreached-between : List String
+unreached-between = "F 1 0 1 3 0" ∷ "B 2" ∷ "O 0 1 v0 0 0" ∷ "B" ∷ "O 1 1 v0 0 0" ∷ "B" ∷ "O 2 1 v0 0 0" ∷ []
+
+-- a missing allocation in an unreached block, behind another one
+abbrev unreached-missing : List String
+unreached-missing = "F 1 0 1 3 0" ∷ "B" ∷ "B" ∷ "B" ∷ "O 0 1 v0 - 0" ∷ []
 
 -- every register holds itself at the entry
 abbrev register-used : List String
@@ -177,7 +189,12 @@ rows =
     ∷ sheet Old three-in-line ("R old 2" ∷ "E 1 0 0 4 s0 v0 -" ∷ "E 2 0 1 4 s0 v1 -" ∷ [])
     ∷ sheet House three-in-line ("R house 2" ∷ "E 1 0 0 4 s0 v0 -" ∷ "E 2 0 1 4 s0 v1 -" ∷ [])
     ∷ sheet Old unreached-use ("R old 1" ∷ "E 1 0 0 2 r0 - -" ∷ [])
-    ∷ sheet House unreached-use ("R house 1" ∷ "E 1 0 0 2 r0 - -" ∷ [])
+    ∷ sheet House unreached-use ("R house 0" ∷ "N 1" ∷ [])
+    ∷ sheet Old unreached-empty ("R old 0" ∷ [])
+    ∷ sheet House unreached-empty ("R house 0" ∷ "N 0" ∷ "N 2" ∷ [])
+    ∷ sheet Old unreached-between ("R old 3" ∷ "E 0 0 0 3 r0 v0 r0" ∷ "E 1 0 1 2 r0 - -" ∷ "E 2 0 2 3 r0 v0 r0" ∷ [])
+    ∷ sheet House unreached-between ("R house 2" ∷ "E 0 0 0 3 r0 v0 r0" ∷ "N 1" ∷ "E 2 0 2 3 r0 v0 r0" ∷ [])
+    ∷ sheet House unreached-missing ("R house 1" ∷ "E 2 0 0 1 - v0 -" ∷ [])
     ∷ sheet Old register-used ("R old 0" ∷ [])
     ∷ sheet House register-used ("R house 0" ∷ [])
     ∷ sheet Old change-to-itself ("R old 0" ∷ [])

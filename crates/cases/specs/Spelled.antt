@@ -13,9 +13,12 @@ use Rattle.paper.specs.declared.Rule.{Rule}
 use Rattle.paper.specs.declared.Rule.the-variants.{Old, House}
 use Rattle.paper.specs.declared.Answer.the-variants.{Refused}
 
--- the longest lines by name
-report-size-as-before : report-size ≡ max-steps * 32 + 16
-report-size-as-before = refl
+-- the longest lines by name, and document 02's figure
+report-size-by-figures : report-size ≡ max-steps * 32 + 16 + 64 * 5
+report-size-by-figures = refl
+
+report-size-is : report-size ≡ 33104
+report-size-is = refl
 
 -- letters
 letters-as-before : (letter-s ∷ letter-E ∷ letter-R ∷ letter-X ∷ []) ≡ (115 ∷ 69 ∷ 82 ∷ 88 ∷ [])

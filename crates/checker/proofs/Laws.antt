@@ -4,27 +4,28 @@ use mathlib.Core.Bool.{true, false}
 use mathlib.Core.List.{List, [], _∷_}
 use Prim.Native.Nat.{ℕ, zero, suc, _≤_, _<_}
 use native.Mathlib.Omega.{arith}
-use lib.ListN.{length, replicate}
+use lib.ListN.{length, getD, replicate}
 use Rattle.paper.specs.Text.{Bytes}
 use Rattle.paper.specs.Sheet.{Sheet}
-use Rattle.paper.specs.Limits.{report-size, max-steps}
+use Rattle.paper.specs.Limits.{report-size, words-size, max-steps}
 use Rattle.paper.specs.Refusals.{Reading, loaded, refused, read, step-count}
 use Rattle.paper.specs.Steps.{counts-of}
-use Rattle.paper.specs.Runs.{checked-from}
-use Rattle.paper.specs.Report.{Line, report-text, missing-allocations, faults}
-use Rattle.paper.specs.Answer.{Said, said-of, said-after, answer, Lent, too-short, zeros, answer-of, report-of, Outcome, outcome-of, outcome}
+use Rattle.paper.specs.Runs.{analysis, checked-from}
+use Rattle.paper.specs.Report.{Line, Entry, entries, faults-in, report-text, missing-allocations}
+use Rattle.paper.specs.Answer.{Said, said-by, said-of, said-after, answer, Lent, too-short, zeros, answer-of, report-of, Outcome, outcome-of, outcome}
 use Rattle.paper.specs.declared.Rule.{Rule}
 use Rattle.paper.specs.declared.Rule.the-variants.{Old, House}
 use Rattle.paper.specs.declared.Answer.{Answer}
 use Rattle.paper.specs.declared.Refusal.{Refusal}
 use Rattle.paper.specs.declared.Answer.the-variants.{Refused}
-use Rattle.layout.specs.Layout.{state-at}
+use Rattle.layout.specs.Layout.{state-at, mark-at}
 use Rattle.walks.specs.Reading.{read-few}
 use Rattle.loaded.specs.Loaded.{sheet-of, Loaded}
 use Rattle.sheet.specs.Reading.{loading-of, Load}
 use Rattle.sheet.specs.declared.Loading as Loading
 use Rattle.sheet.specs.declared.Loading.the-variants as loading
 use Rattle.cells.specs.States.{stored-state}
+use Rattle.tables.specs.Table.{mark-of}
 use Rattle.runs.specs.Stands.{Analysed, analysed-sheet, analysed-loaded}
 use Rattle.faults.specs.Missing.{missing-lines, MissingOf}
 use Rattle.faults.specs.declared.Missing.{Missing}
@@ -35,24 +36,27 @@ use Rattle.checker.specs.declared.Verdict.{Verdict}
 use Rattle.checker.proofs.Refused.{read-bounded}
 
 -- what `report` answers and writes is said of the lines
-said-within : (rule : Rule) (ls : List Line) → length (report-text rule ls) ≤ report-size → AnswerWithin (answer-of (said-of rule ls))
-unfolding said-of answer-of
-said-within rule [] h = h
-said-within rule (l ∷ ls) h = h
+said-within : (rule : Rule) (es : List Entry) → length (report-text rule es) ≤ report-size → AnswerWithin (answer-of (said-of rule es))
+unfolding said-of said-by answer-of
+said-within rule es h = at (faults-in es)
+  where
+    at : (ls : List Line) → AnswerWithin (answer-of (said-by ls (report-text rule es)))
+    at [] = h
+    at (l ∷ ls) = h
 
-pub reported : {rule : Rule} {ls : List Line} {report words queue report′ words′ queue′ : List ℕ} {r : Answer} → Reported rule ls report r report′
-    → length words′ ≡ length words → length queue′ ≡ length queue → Answered (said-of rule ls) report words queue report′ words′ queue′ r
-reported {rule} {ls} p w q = record {
+pub reported : {rule : Rule} {es : List Entry} {report words queue report′ words′ queue′ : List ℕ} {r : Answer} → Reported rule es report r report′
+    → length words′ ≡ length words → length queue′ ≡ length queue → Answered (said-of rule es) report words queue report′ words′ queue′ r
+reported {rule} {es} p w q = record {
   answer-is = p .answer;
   report-is = p .text;
   same-words = w;
   same-queue = q;
-  within = subst AnswerWithin (sym (p .answer)) (said-within rule ls (p .fits));
+  within = subst AnswerWithin (sym (p .answer)) (said-within rule es (p .fits));
 }
 
 -- the words behind the analysis can be checked
 module _ {rule : Rule} {words queue words′ queue′ : List ℕ} (loads : Loaded words) (few : Few words) (full : missing-allocations (sheet-of words) ≡ [])
-    (a : Analysed rule words queue words′ queue′) where
+    (room : words-size ≤ length words) (a : Analysed rule words queue words′ queue′) where
   pub same-sheet : sheet-of words′ ≡ sheet-of words
   same-sheet = analysed-sheet loads a
 
@@ -63,13 +67,22 @@ module _ {rule : Rule} {words queue words′ queue′ : List ℕ} (loads : Loade
   unfolding StatesOf sheet-of
   states-of = a .states
 
+  MarksOf : Sheet → Type 0
+  MarksOf S = (b : ℕ) → b < S .blocks → getD words′ (mark-at b) 0 ≡ mark-of ((analysis rule S) .table b)
+
+  marks-of : MarksOf (sheet-of words)
+  unfolding MarksOf sheet-of
+  marks-of = a .marks
+
   pub checkable : Checkable rule words′
-  unfolding StatesOf sheet-of counts-of
+  unfolding StatesOf MarksOf sheet-of counts-of
   checkable = record {
     loaded = analysed-loaded loads a;
+    room = omega (arith, a .kept .same-length);
     few = subst (λ (S : Sheet). step-count (S .body) ≤ max-steps) (sym same-sheet) few;
     allocated = subst (λ (S : Sheet). missing-allocations S ≡ []) (sym same-sheet) full;
     states = subst StatesOf (sym same-sheet) states-of;
+    marks = subst MarksOf (sym same-sheet) marks-of;
   }
 
 -- a sheet that was loaded, or was refused
@@ -102,9 +115,9 @@ module _ {sheet : Bytes} {before after : List ℕ} {r : Loading.Loading} (l : Lo
     few-steps = subst (λ (S : Sheet). step-count (S .body) ≤ max-steps) (sym is-sheet) (read-few sheet (loads-sheet l e .0) (loads-sheet l e .1))
 
     -- what is said of the loaded sheet is what is said of the bytes
-    pub said-of-loaded : (rule : Rule) → said-of rule (faults rule (sheet-of after)) ≡ answer rule sheet
+    pub said-of-loaded : (rule : Rule) → said-of rule (entries rule (sheet-of after)) ≡ answer rule sheet
     unfolding answer said-after
-    said-of-loaded rule = ap (λ (S : Sheet). said-of rule (faults rule S)) is-sheet ∙ sym (ap (said-after rule) (loads-sheet l e .1))
+    said-of-loaded rule = ap (λ (S : Sheet). said-of rule (entries rule S)) is-sheet ∙ sym (ap (said-after rule) (loads-sheet l e .1))
 
   -- a refusal is said as it is
   pub refused-answer : (rule : Rule) {report words queue : List ℕ} {refusal : Refusal} → r ≡ loading.Refused refusal → length after ≡ length words

@@ -12,8 +12,8 @@ use Rattle.fields.specs.Spelling.{length-digits}
 use Rattle.paper.specs.Text.{Bytes, tab, line-feed, digits}
 use Rattle.paper.specs.Limits.{report-size}
 use Rattle.paper.specs.Refusals.{Reading, loaded, refused, read}
-use Rattle.paper.specs.Report.{Line, behind-tabs, faults}
-use Rattle.paper.specs.Answer.{Said, accepted, faulty, turned-away, said-of, said-after, answer, letter-X, written, Lent, too-short, laid, zeros, answer-of, report-of, Outcome, outcome-of, outcome}
+use Rattle.paper.specs.Report.{Line, entries, faults-in, behind-tabs, report-text}
+use Rattle.paper.specs.Answer.{Said, accepted, faulty, turned-away, said-by, said-of, said-after, answer, letter-X, written, Lent, too-short, laid, zeros, answer-of, report-of, Outcome, outcome-of, outcome}
 use Rattle.paper.specs.declared.Rule.{Rule}
 use Rattle.paper.specs.declared.Refusal.{Refusal}
 use Rattle.paper.specs.declared.Answer.{Answer}
@@ -77,15 +77,15 @@ text-left-by {size} {text} {before} {after} {n} c long =
 
 -- bytes are never refused by number 1
 said-number : (rule : Rule) (sheet : Bytes) (refusal : Refusal) → answer rule sheet ≡ turned-away refusal → 2 ≤ refusal .number
-unfolding answer said-after said-of
+unfolding answer said-after said-of said-by
 said-number rule sheet refusal e = at (read sheet) refl e
   where
-    no-report : (ls : List Line) → said-of rule ls ≡ turned-away refusal → 2 ≤ refusal .number
-    no-report [] f = let z : _≡_ {A = ℕ} 0 1 = cc in absurd (omega arith)
-    no-report (l ∷ ls) f = let z : _≡_ {A = ℕ} 0 1 = cc in absurd (omega arith)
+    no-report : (ls : List Line) (text : Bytes) → said-by ls text ≡ turned-away refusal → 2 ≤ refusal .number
+    no-report [] text f = let z : _≡_ {A = ℕ} 0 1 = cc in absurd (omega arith)
+    no-report (l ∷ ls) text f = let z : _≡_ {A = ℕ} 0 1 = cc in absurd (omega arith)
 
     at : (o : Reading) → read sheet ≡ o → said-after rule o ≡ turned-away refusal → 2 ≤ refusal .number
-    at (loaded S) h f = no-report (faults rule S) f
+    at (loaded S) h f = no-report (faults-in (entries rule S)) (report-text rule (entries rule S)) f
     at (refused r) h f = let z : r ≡ refusal = cc in subst (λ (q : Refusal). 2 ≤ q .number) z (read-bounded sheet r h .least)
 
 module _ {rule : Rule} {sheet : Bytes} {before after : Lent} {r : Answer} (c : Checked rule sheet before after r) where

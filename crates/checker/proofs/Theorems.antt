@@ -2,7 +2,8 @@
 -- that both meet a promise on the same input are equal, buffers included. Demand 3 for `check`, for `itanropen_check` and for the
 -- text that `answer_text` leaves and `regcheck` writes: accepted under the house rule exactly when the sheet is read and the
 -- acceptance sentence holds of it; then its two programs read equal values at every use. And for every sheet that is read, accepted
--- or not, the report is of states that are the meet over all walks, and it is well formed; a refusal's field is that of its line.
+-- or not, the report is of states that are the meet over all walks, it is well formed, and it has a line `N b` exactly where no
+-- allocation is missing and no walk comes to block b; a refusal's field is that of its line.
 use mathlib.Core.Path.{_≡_, refl, sym, ap, _∙_, subst}
 use mathlib.Core.Logic.{_↔_, _⊎_, inl, inr, ⊎-map, ⊎-elim}
 use mathlib.Core.Bool.{Bool, true, false}
@@ -17,23 +18,25 @@ use Rattle.paper.specs.Sheet.{Sheet}
 use Rattle.paper.specs.Limits.{report-size}
 use Rattle.paper.specs.Runs.{visit-bound, EndsAfter}
 use Rattle.paper.specs.Refusals.{names-field, Reading, loaded, refused, read}
-use Rattle.paper.specs.Report.{Line, find-errors, first-list, missing-allocations, faults, report-text}
-use Rattle.paper.specs.Walks.{Acceptance}
-use Rattle.paper.specs.Comparison.{bad-line}
-use Rattle.paper.specs.Answer.{Said, accepted, faulty, turned-away, said-of, said-after, answer, written, Lent, too-short, laid, answer-of, report-of, Outcome, outcome-of, outcome}
+use Rattle.paper.specs.Report.{Line, Entry, find-errors, first-list, missing-allocations, entries, faults-in, faults, report-text}
+use Rattle.paper.specs.Walks.{In, Acceptance}
+use Rattle.paper.specs.Comparison.{pieces, bad-line}
+use Rattle.paper.specs.Answer.{Said, accepted, faulty, turned-away, said-by, said-of, said-after, answer, written, Lent, too-short, laid, answer-of, report-of, Outcome, outcome-of, outcome}
 use Rattle.paper.specs.declared.Rule.{Rule}
 use Rattle.paper.specs.declared.Rule.the-variants.{Old, House}
 use Rattle.paper.specs.declared.Refusal.{Refusal}
 use Rattle.paper.specs.declared.Answer.{Answer}
 use Rattle.paper.specs.declared.Answer.the-variants.{Accepted, Faulty, Refused}
-use Rattle.walks.specs.Theorems.{ReadSheet, read-sheet, Acceptable, AcceptedBytes, acceptable, accepted-bytes, bytes-acceptance}
-use Rattle.compare.specs.Spelled.{report-well-formed}
+use Rattle.walks.specs.Small.{Small}
+use Rattle.walks.specs.Unreached.{Unwalked}
+use Rattle.walks.specs.Theorems.{ReadSheet, read-sheet, acceptance, read-closed, read-typed, Acceptable, AcceptedBytes, acceptable, accepted-bytes, bytes-acceptance}
+use Rattle.compare.specs.Spelled.{report-well-formed, unreached-line, named-exactly}
 use Rattle.columns.specs.Theorems.{Located, unlocated, read-located}
 use Rattle.checker.specs.Checked.{Checked, TextOutcome, Stated, verdict-of, rule-of, Exported}
 use Rattle.checker.specs.declared.Verdict.{Verdict}
 use Rattle.checker.proofs.Laws.{number-0, number-other}
 use Rattle.checker.proofs.Texts.{text-left-by}
-use Rattle.checker.proofs.Zero.{house-zero, zero-text, zero-said, zero-left}
+use Rattle.checker.proofs.Zero.{BeginsZero, zero-begins, zero-said, zero-left}
 
 pub check-one-outcome : {rule : Rule} {sheet : Bytes} {before after after′ : Lent} {r r′ : Answer} → Checked rule sheet before after r → Checked rule sheet before after′ r′
     → (r ≡ r′) × (after ≡ after′)
@@ -71,7 +74,7 @@ accepted-outcome sheet before n e = let s = outcome-accepted House sheet before 
 
 -- and a sheet that the acceptance sentence holds of has that outcome, where the lent buffers are long enough
 outcome-accepts : (sheet : Bytes) (before : Lent) (S : Sheet) → too-short report-size before ≡ false → read sheet ≡ loaded S → Acceptance S
-    → (outcome House sheet before) .answer ≡ Accepted (length (report-text House []))
+    → (outcome House sheet before) .answer ≡ Accepted (length (report-text House (entries House S)))
 unfolding outcome outcome-of answer-of
 outcome-accepts sheet before S long h E = rw (long, bytes-acceptance sheet S h .1 E)
 
@@ -81,7 +84,7 @@ module _ {sheet : Bytes} {before after : Lent} where
   check-accepted {n} c = accepted-outcome sheet before n (ap (λ (o : Outcome). o .answer) (c .whole))
 
   pub check-accepts : {r : Answer} (S : Sheet) → Checked House sheet before after r → too-short report-size before ≡ false → read sheet ≡ loaded S → Acceptance S
-      → r ≡ Accepted (length (report-text House []))
+      → r ≡ Accepted (length (report-text House (entries House S)))
   check-accepts S c long h E = ap (λ (o : Outcome). o .answer) (c .whole) ∙ outcome-accepts sheet before S long h E
 
   pub check-exactly : {r : Answer} → Checked House sheet before after r → too-short report-size before ≡ false → ((n : ℕ) × (r ≡ Accepted n)) ↔ Acceptable sheet
@@ -108,7 +111,8 @@ module _ {rule : ℕ} {sheet : Bytes} {before after : Lent} {r : Verdict} (house
       at (Faulty n) t = let p : r .answer ≡ 1 = ap (λ (v : Verdict). v .answer) (verdict-is (Faulty n) t) in absurd (omega arith)
       at (Refused refusal) t = let p : r .answer ≡ 2 = ap (λ (v : Verdict). v .answer) (verdict-is (Refused refusal) t) in absurd (omega arith)
 
-  pub export-accepts : (S : Sheet) → too-short report-size before ≡ false → read sheet ≡ loaded S → Acceptance S → r ≡ verdict-of (Accepted (length (report-text House [])))
+  pub export-accepts : (S : Sheet) → too-short report-size before ≡ false → read sheet ≡ loaded S → Acceptance S
+      → r ≡ verdict-of (Accepted (length (report-text House (entries House S))))
   export-accepts S long h E = verdict-is _ (outcome-accepts sheet before S long h E)
 
   pub export-exactly : too-short report-size before ≡ false → (r .answer ≡ 0) ↔ Acceptable sheet
@@ -118,36 +122,42 @@ module _ {rule : ℕ} {sheet : Bytes} {before after : Lent} {r : Verdict} (house
     λ a. ap (λ (v : Verdict). v .answer) (export-accepts (a .sheet) long (a .is-read) (a .sentence)),
   )
 
--- the text that `answer_text` leaves under the house rule and `regcheck` writes: exactly `R house 0` and LF, the ten bytes of `house-zero`
+-- the text that `answer_text` leaves under the house rule and `regcheck` writes: it begins with `R house 0` and LF, the ten bytes of
+-- `house-zero`
 module _ (sheet : Bytes) {before after : Lent} {n : ℕ} (c : Stated report-size (written (answer House sheet)) before after n) where
-  pub text-accepted : take n (after .report) ≡ house-zero → AcceptedBytes sheet
-  text-accepted e = accepted-bytes sheet (report-text House []) (zero-said sheet (zero-left c e))
+  pub text-accepted : BeginsZero (take n (after .report)) → AcceptedBytes sheet
+  text-accepted e = let s = zero-said sheet (zero-left c e) in accepted-bytes sheet (s .0) (s .1)
 
-  pub text-accepts : (S : Sheet) → too-short report-size before ≡ false → read sheet ≡ loaded S → Acceptance S → take n (after .report) ≡ house-zero
-  unfolding written
-  text-accepts S long h E = text-left-by c long ∙ ap written (bytes-acceptance sheet S h .1 E) ∙ zero-text
+  pub text-accepts : (S : Sheet) → too-short report-size before ≡ false → read sheet ≡ loaded S → Acceptance S → BeginsZero (take n (after .report))
+  unfolding written faults
+  text-accepts S long h E =
+      let none : faults House S ≡ [] = acceptance S (read-closed sheet S h) (read-typed sheet S h) .1 E in
+      ap (take 10) (text-left-by c long ∙ ap written (bytes-acceptance sheet S h .1 E)) ∙ zero-begins (entries House S) none
 
-  pub text-exactly : too-short report-size before ≡ false → (take n (after .report) ≡ house-zero) ↔ Acceptable sheet
+  pub text-exactly : too-short report-size before ≡ false → BeginsZero (take n (after .report)) ↔ Acceptable sheet
   text-exactly long = (λ e. acceptable (text-accepted e), λ a. text-accepts (a .sheet) long (a .is-read) (a .sentence))
 
 -- Every answer with a report, accepted or faulty, under either rule: the sheet that was read; its states are the meet over all walks
 -- and each run ends within document 01's count of visits (`ReadSheet`); the report's lines, which are those of a missing
--- allocation, or the faults of every block checked from its state.
+-- allocation, or every block's: its faults, checked from its state, or `N` where it has none.
 pub record ReportOf (rule : Rule) (bytes : Bytes) (before after : Lent) : Type 0 where
   pub sheet : Sheet
   pub is-read : read bytes ≡ loaded sheet
   pub known : ReadSheet sheet
-  pub report-is : after .report ≡ laid (report-text rule (faults rule sheet)) (before .report)
-  pub each-block : missing-allocations sheet ≡ [] → faults rule sheet ≡ find-errors rule sheet
+  pub report-is : after .report ≡ laid (report-text rule (entries rule sheet)) (before .report)
+  pub each-block : missing-allocations sheet ≡ [] → entries rule sheet ≡ find-errors rule sheet
 
-no-missing : (rule : Rule) (S : Sheet) → missing-allocations S ≡ [] → faults rule S ≡ find-errors rule S
-unfolding faults first-list
+no-missing : (rule : Rule) (S : Sheet) → missing-allocations S ≡ [] → entries rule S ≡ find-errors rule S
+unfolding entries first-list
 no-missing rule S e = rw e
 
-reported-lines : (rule : Rule) (ls : List Line) (report : List ℕ) → report-of (said-of rule ls) report ≡ laid (report-text rule ls) report
-unfolding said-of report-of
-reported-lines rule [] report = refl
-reported-lines rule (l ∷ ls) report = refl
+reported-lines : (rule : Rule) (es : List Entry) (report : List ℕ) → report-of (said-of rule es) report ≡ laid (report-text rule es) report
+unfolding said-of said-by report-of
+reported-lines rule es report = at (faults-in es)
+  where
+    at : (ls : List Line) → report-of (said-by ls (report-text rule es)) report ≡ laid (report-text rule es) report
+    at [] = refl
+    at (l ∷ ls) = refl
 
 outcome-reported : (rule : Rule) (sheet : Bytes) (before : Lent) → ((refusal : Refusal) → ¬ ((outcome rule sheet before) .answer ≡ Refused refusal)) → ReportOf rule sheet before ((outcome rule sheet before) .lent)
 unfolding outcome outcome-of answer said-after answer-of
@@ -160,7 +170,7 @@ outcome-reported rule sheet before given = at (too-short report-size before) ref
       sheet = S;
       is-read = h;
       known = read-sheet sheet S h;
-      report-is = rw (s, h) (reported-lines rule (faults rule S) (before .report));
+      report-is = rw (s, h) (reported-lines rule (entries rule S) (before .report));
       each-block = no-missing rule S;
     }
 
@@ -177,77 +187,121 @@ pub check-visits : {rule : Rule} {sheet : Bytes} {before after : Lent} {r : Answ
     → (S : Sheet) × ((read sheet ≡ loaded S) × ((k : ℕ) × (EndsAfter rule S k × (k ≤ visit-bound rule S))))
 check-visits {rule} c given = let p = check-reported c given in (p .sheet, (p .is-read, p .known .visits rule))
 
--- Document 02, A1: whatever is answered with a report, under either rule, leaves a well-formed report, in its first bytes as many as
--- the answer says.
+-- What an answer with a report leaves, under either rule: the sheet that was read, and the text of its answer, in as many bytes as the
+-- answer says.
+pub record TextOf (rule : Rule) (bytes left : Bytes) : Type 0 where
+  pub sheet : Sheet
+  pub is-read : read bytes ≡ loaded sheet
+  pub is-text : left ≡ written (answer rule bytes)
 
-text-well-formed : (rule : Rule) (sheet text : Bytes) → (answer rule sheet ≡ accepted text) ⊎ (answer rule sheet ≡ faulty text) → bad-line text ≡ 0
-unfolding answer said-after written
-text-well-formed rule sheet text e = at (read sheet) refl
-  where
-    at : (o : Reading) → read sheet ≡ o → bad-line text ≡ 0
-    at (loaded S) h =
-        let t : written (answer rule sheet) ≡ text = ⊎-elim (λ f. ap written f) (λ f. ap written f) e in
-        subst (λ (t : Bytes). bad-line t ≡ 0) t (report-well-formed rule sheet S h)
-    at (refused refusal) h =
-        ⊎-elim (λ f. let p = rw h at f in let z : _≡_ {A = ℕ} 0 1 = cc in absurd (omega arith))
-        (λ f. let p = rw h at f in let z : _≡_ {A = ℕ} 0 1 = cc in absurd (omega arith)) e
+apart : {Q : Type 0} {n : ℕ} {refusal : Refusal} → (Refused refusal ≡ Accepted n) ⊎ (Refused refusal ≡ Faulty n) → Q
+apart (inl e) = let z : _≡_ {A = ℕ} 0 1 = cc in absurd (omega arith)
+apart (inr e) = let z : _≡_ {A = ℕ} 0 1 = cc in absurd (omega arith)
 
-outcome-well-formed : (rule : Rule) (sheet : Bytes) (before : Lent) (n : ℕ)
+accepted-long : (text : Bytes) {n : ℕ} → (Accepted (length text) ≡ Accepted n) ⊎ (Accepted (length text) ≡ Faulty n) → n ≡ length text
+accepted-long text (inl e) = cc
+accepted-long text (inr e) = let z : _≡_ {A = ℕ} 0 1 = cc in absurd (omega arith)
+
+faulty-long : (text : Bytes) {n : ℕ} → (Faulty (length text) ≡ Accepted n) ⊎ (Faulty (length text) ≡ Faulty n) → n ≡ length text
+faulty-long text (inl e) = let z : _≡_ {A = ℕ} 0 1 = cc in absurd (omega arith)
+faulty-long text (inr e) = cc
+
+outcome-text : (rule : Rule) (sheet : Bytes) (before : Lent) (n : ℕ)
     → ((outcome rule sheet before) .answer ≡ Accepted n) ⊎ ((outcome rule sheet before) .answer ≡ Faulty n)
-    → bad-line (take n ((outcome rule sheet before) .lent .report)) ≡ 0
-unfolding outcome outcome-of answer-of report-of laid
-outcome-well-formed rule sheet before n e = at (too-short report-size before) refl (answer rule sheet) refl
+    → TextOf rule sheet (take n ((outcome rule sheet before) .lent .report))
+unfolding outcome outcome-of answer said-after said-of said-by answer-of report-of written laid
+outcome-text rule sheet before n e = at (too-short report-size before) refl (read sheet) refl
   where
-    told : (o : Outcome) → outcome rule sheet before ≡ o → (o .answer ≡ Accepted n) ⊎ (o .answer ≡ Faulty n)
-    told o f = ⊎-map (λ h. sym (ap (λ (x : Outcome). x .answer) f) ∙ h) (λ h. sym (ap (λ (x : Outcome). x .answer) f) ∙ h) e
+    whole : (text : Bytes) → n ≡ length text → take n (laid text (before .report)) ≡ text
+    whole text k = ap (λ (j : ℕ). take j (laid text (before .report))) k ∙ take-at text (drop (length text) (before .report)) (length text) refl
 
-    at : (b : Bool) → too-short report-size before ≡ b → (said : Said) → answer rule sheet ≡ said
-        → bad-line (take n ((outcome rule sheet before) .lent .report)) ≡ 0
-    at true s said t =
-        ⊎-elim (λ h. let z : _≡_ {A = ℕ} 0 1 = cc in absurd (omega arith)) (λ h. let z : _≡_ {A = ℕ} 0 1 = cc in absurd (omega arith))
-        (told (record { answer = Refused (record { number = 1; line = 0; field = 0 }); lent = before }) (rw s))
-    at false s (accepted text) t =
-        let p = told (outcome-of (accepted text) before) (rw (s, t)) in
-        let k : length text ≡ n = ⊎-elim (λ h. (cc)) (λ h. let z : _≡_ {A = ℕ} 0 1 = cc in absurd (omega arith)) p in
-        rw (s, t, ← k, take-at text (drop (length text) (before .report)) (length text) refl) (text-well-formed rule sheet text (inl t))
-    at false s (faulty text) t =
-        let p = told (outcome-of (faulty text) before) (rw (s, t)) in
-        let k : length text ≡ n = ⊎-elim (λ h. let z : _≡_ {A = ℕ} 0 1 = cc in absurd (omega arith)) (λ h. (cc)) p in
-        rw (s, t, ← k, take-at text (drop (length text) (before .report)) (length text) refl) (text-well-formed rule sheet text (inr t))
-    at false s (turned-away refusal) t =
-        ⊎-elim (λ h. let z : _≡_ {A = ℕ} 0 1 = cc in absurd (omega arith)) (λ h. let z : _≡_ {A = ℕ} 0 1 = cc in absurd (omega arith))
-        (told (outcome-of (turned-away refusal) before) (rw (s, t)))
+    lines : (ls : List Line) (text : Bytes) → let o = outcome-of (said-by ls text) before in (o .answer ≡ Accepted n) ⊎ (o .answer ≡ Faulty n)
+        → take n (o .lent .report) ≡ written (said-by ls text)
+    lines [] text f = whole text (accepted-long text f)
+    lines (l ∷ ls) text f = whole text (faulty-long text f)
 
-pub check-well-formed : {rule : Rule} {sheet : Bytes} {before after : Lent} {r : Answer} → Checked rule sheet before after r
-    → (n : ℕ) → (r ≡ Accepted n) ⊎ (r ≡ Faulty n) → bad-line (take n (after .report)) ≡ 0
-check-well-formed {rule} {sheet} {before} c n e =
+    at : (b : Bool) → too-short report-size before ≡ b → (o : Reading) → read sheet ≡ o
+        → TextOf rule sheet (take n ((outcome rule sheet before) .lent .report))
+    at true s o h = apart (rw s at e)
+    at false s (refused refusal) h = apart (rw (s, h) at e)
+    at false s (loaded S) h = record {
+      sheet = S;
+      is-read = h;
+      is-text = rw (s, h) (lines (faults-in (entries rule S)) (report-text rule (entries rule S)) (rw (s, h) at e));
+    }
+
+check-text : {rule : Rule} {sheet : Bytes} {before after : Lent} {r : Answer} → Checked rule sheet before after r
+    → (n : ℕ) → (r ≡ Accepted n) ⊎ (r ≡ Faulty n) → TextOf rule sheet (take n (after .report))
+check-text {rule} {sheet} {before} c n e =
     let a = sym (ap (λ (o : Outcome). o .answer) (c .whole)) in
-    subst (λ (l : Lent). bad-line (take n (l .report)) ≡ 0) (sym (ap (λ (o : Outcome). o .lent) (c .whole)))
-    (outcome-well-formed rule sheet before n (⊎-map (λ h. a ∙ h) (λ h. a ∙ h) e))
+    subst (λ (l : Lent). TextOf rule sheet (take n (l .report))) (sym (ap (λ (o : Outcome). o .lent) (c .whole)))
+    (outcome-text rule sheet before n (⊎-map (λ h. a ∙ h) (λ h. a ∙ h) e))
 
 -- `itanropen_check`, where it does not refuse
-pub export-well-formed : {rule : ℕ} {sheet : Bytes} {before after : Lent} {r : Verdict} → Exported rule sheet before after r → ¬ (r .answer ≡ 2)
-    → bad-line (take (r .length) (after .report)) ≡ 0
+export-text : {rule : ℕ} {sheet : Bytes} {before after : Lent} {r : Verdict} → Exported rule sheet before after r → ¬ (r .answer ≡ 2)
+    → TextOf (rule-of rule) sheet (take (r .length) (after .report))
 unfolding verdict-of
-export-well-formed {rule} {sheet} {before} {after} {r} c given = at ((outcome (rule-of rule) sheet before) .answer) refl
+export-text {rule} {sheet} {before} {after} {r} c given = at ((outcome (rule-of rule) sheet before) .answer) refl
   where
     is : (a : Answer) → (outcome (rule-of rule) sheet before) .answer ≡ a → r ≡ verdict-of a
     is a t = c .verdict-is ∙ ap verdict-of t
 
-    left : (n : ℕ) → r .length ≡ n → bad-line (take n ((outcome (rule-of rule) sheet before) .lent .report)) ≡ 0
-        → bad-line (take (r .length) (after .report)) ≡ 0
+    left : (n : ℕ) → r .length ≡ n → TextOf (rule-of rule) sheet (take n ((outcome (rule-of rule) sheet before) .lent .report))
+        → TextOf (rule-of rule) sheet (take (r .length) (after .report))
     left n e w = rw (e, c .lent-is) w
 
-    at : (a : Answer) → (outcome (rule-of rule) sheet before) .answer ≡ a → bad-line (take (r .length) (after .report)) ≡ 0
-    at (Accepted n) t = left n (ap (λ (v : Verdict). v .length) (is (Accepted n) t)) (outcome-well-formed (rule-of rule) sheet before n (inl t))
-    at (Faulty n) t = left n (ap (λ (v : Verdict). v .length) (is (Faulty n) t)) (outcome-well-formed (rule-of rule) sheet before n (inr t))
+    at : (a : Answer) → (outcome (rule-of rule) sheet before) .answer ≡ a → TextOf (rule-of rule) sheet (take (r .length) (after .report))
+    at (Accepted n) t = left n (ap (λ (v : Verdict). v .length) (is (Accepted n) t)) (outcome-text (rule-of rule) sheet before n (inl t))
+    at (Faulty n) t = left n (ap (λ (v : Verdict). v .length) (is (Faulty n) t)) (outcome-text (rule-of rule) sheet before n (inr t))
     at (Refused refusal) t = absurd (given (ap (λ (v : Verdict). v .answer) (is (Refused refusal) t)))
+
+-- Document 02, A1: whatever is answered with a report, under either rule, leaves a well-formed report, in its first bytes as many as
+-- the answer says.
+text-well-formed : {rule : Rule} {sheet left : Bytes} → TextOf rule sheet left → bad-line left ≡ 0
+text-well-formed {rule} {sheet} t = ap bad-line (t .is-text) ∙ report-well-formed rule sheet (t .sheet) (t .is-read)
+
+pub check-well-formed : {rule : Rule} {sheet : Bytes} {before after : Lent} {r : Answer} → Checked rule sheet before after r
+    → (n : ℕ) → (r ≡ Accepted n) ⊎ (r ≡ Faulty n) → bad-line (take n (after .report)) ≡ 0
+check-well-formed c n e = text-well-formed (check-text c n e)
+
+pub export-well-formed : {rule : ℕ} {sheet : Bytes} {before after : Lent} {r : Verdict} → Exported rule sheet before after r → ¬ (r .answer ≡ 2)
+    → bad-line (take (r .length) (after .report)) ≡ 0
+export-well-formed c given = text-well-formed (export-text c given)
+
+-- Document 02, A5: under the house rule the line `N b` stands among them exactly when the sheet that was read misses no allocation, b is
+-- one of its blocks, and no walk comes to it.
+pub record UnwalkedBytes (bytes : Bytes) (b : ℕ) : Type 0 where
+  pub sheet : Sheet
+  pub is-read : read bytes ≡ loaded sheet
+  pub unwalked : Unwalked sheet b
+
+text-named : {sheet left : Bytes} → TextOf House sheet left → (b : ℕ) → Small b → In (unreached-line b) (pieces left) ↔ UnwalkedBytes sheet b
+text-named {sheet} {left} t b small = (
+  λ i. record {
+    sheet = t .sheet;
+    is-read = t .is-read;
+    unwalked = exactly (t .sheet) (t .is-read) .0 (subst (λ (text : Bytes). In (unreached-line b) (pieces text)) (t .is-text) i);
+  },
+  λ u. subst (λ (text : Bytes). In (unreached-line b) (pieces text)) (sym (t .is-text)) (exactly (u .sheet) (u .is-read) .1 (u .unwalked)),
+)
+  where
+    exactly : (S : Sheet) → read sheet ≡ loaded S → In (unreached-line b) (pieces (written (answer House sheet))) ↔ Unwalked S b
+    exactly S h = named-exactly b small sheet S h
+
+pub check-named : {sheet : Bytes} {before after : Lent} {r : Answer} → Checked House sheet before after r → (n : ℕ) → (r ≡ Accepted n) ⊎ (r ≡ Faulty n)
+    → (b : ℕ) → Small b → In (unreached-line b) (pieces (take n (after .report))) ↔ UnwalkedBytes sheet b
+check-named c n e = text-named (check-text c n e)
+
+pub export-named : {rule : ℕ} {sheet : Bytes} {before after : Lent} {r : Verdict} → ¬ (rule ≡ 0) → Exported rule sheet before after r → ¬ (r .answer ≡ 2)
+    → (b : ℕ) → Small b → In (unreached-line b) (pieces (take (r .length) (after .report))) ↔ UnwalkedBytes sheet b
+export-named {rule} {sheet} {after = after} {r = r} house c given =
+    text-named (subst (λ (chosen : Rule). TextOf chosen sheet (take (r .length) (after .report))) (sym (number-other rule house)) (export-text c given))
 
 -- Document 02, A4: the field of a refusal. Whatever sheet `check` refuses, the field is other than 0 exactly where the number names
 -- one; then it is that of the bad line, beside what the lines before it say.
 
 outcome-located : (rule : Rule) (sheet : Bytes) (before : Lent) (refusal : Refusal) → (outcome rule sheet before) .answer ≡ Refused refusal → Located (lines sheet) 1 refusal
-unfolding outcome outcome-of answer said-after answer-of said-of names-field
+unfolding outcome outcome-of answer said-after answer-of said-of said-by names-field
 outcome-located rule sheet before refusal e = at (too-short report-size before) refl (read sheet) refl
   where
     told : (o : Outcome) → outcome rule sheet before ≡ o → o .answer ≡ Refused refusal
@@ -256,16 +310,17 @@ outcome-located rule sheet before refusal e = at (too-short report-size before) 
     one : (r : Refusal) → Refused r ≡ Refused refusal → Located (lines sheet) 1 r → Located (lines sheet) 1 refusal
     one r f l = let z : r ≡ refusal = cc in subst (Located (lines sheet) 1) z l
 
-    said : (ls : List Line) → answer-of (said-of rule ls) ≡ Refused refusal → Located (lines sheet) 1 refusal
-    said [] f = let z : _≡_ {A = ℕ} 0 1 = cc in absurd (omega arith)
-    said (l ∷ ls) f = let z : _≡_ {A = ℕ} 0 1 = cc in absurd (omega arith)
+    said : (ls : List Line) (text : Bytes) → answer-of (said-by ls text) ≡ Refused refusal → Located (lines sheet) 1 refusal
+    said [] text f = let z : _≡_ {A = ℕ} 0 1 = cc in absurd (omega arith)
+    said (l ∷ ls) text f = let z : _≡_ {A = ℕ} 0 1 = cc in absurd (omega arith)
 
     at : (b : Bool) → too-short report-size before ≡ b → (o : Reading) → read sheet ≡ o → Located (lines sheet) 1 refusal
     at true s o h =
         let short : Refusal = record { number = 1; line = 0; field = 0 } in
         one short (told (record { answer = Refused short; lent = before }) (rw s)) (unlocated (lines sheet) 1 1 0 refl)
     at false s (refused r) h = one r (told (outcome-of (turned-away r) before) (rw (s, h))) (read-located sheet r h)
-    at false s (loaded S) h = said (faults rule S) (told (outcome-of (said-of rule (faults rule S)) before) (rw (s, h)))
+    at false s (loaded S) h =
+        said (faults-in (entries rule S)) (report-text rule (entries rule S)) (told (outcome-of (said-of rule (entries rule S)) before) (rw (s, h)))
 
 pub check-located : {rule : Rule} {sheet : Bytes} {before after : Lent} {refusal : Refusal} → Checked rule sheet before after (Refused refusal)
     → Located (lines sheet) 1 refusal

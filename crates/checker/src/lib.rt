@@ -4,7 +4,7 @@ ghost use Prim.Native.Nat.{_≤_};
 ghost use lib.ListN.{length};
 ghost use Rattle.lists.specs.Sets.{Wrote};
 ghost use Rattle.paper.specs.Limits.{report-size, words-size, queue-size};
-ghost use Rattle.paper.specs.Report.{faults};
+ghost use Rattle.paper.specs.Report.{entries};
 ghost use Rattle.paper.specs.Answer as paper-answer;
 ghost use Rattle.loaded.specs.Loaded.{sheet-of, Loaded};
 ghost use Rattle.checker.specs.Checked.{lent, Few, refusal-text, RefusalWithin, Answered, Checked, Stated, verdict-of, rule-of, Exported};
@@ -28,10 +28,10 @@ pub struct Verdict {
     pub field: usize,
 }
 
-// The faults of loaded words, written to the start of the lent report.
+// The report of loaded words, written to the start of the lent report.
 fn write_faults(rule: Rule, words: &mut [u16], queue: &mut [u8], report: &mut [u8]) -> Answer
     requires { ⌜ Loaded (now words) × Few (now words) × (report-size ≤ length (now report)) × (words-size ≤ length (now words)) × (queue-size ≤ length (now queue)) ⌝ }
-    ensures { λ r. ⌜ Answered (paper-answer.said-of rule (faults rule (sheet-of (now (words .entry))))) (now (report .entry)) (now (words .entry)) (now (queue .entry)) (now (report .exit)) (now (words .exit)) (now (queue .exit)) r ⌝ }
+    ensures { λ r. ⌜ Answered (paper-answer.said-of rule (entries rule (sheet-of (now (words .entry))))) (now (report .entry)) (now (words .entry)) (now (queue .entry)) (now (report .exit)) (now (words .exit)) (now (queue .exit)) r ⌝ }
 {
     let missing = faults::find_missing(words);
     if let Missing::Found { block, place, k } = missing {

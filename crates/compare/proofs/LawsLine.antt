@@ -25,7 +25,7 @@ use Rattle.fields.specs.declared.Number.the-variants as number
 use Rattle.fields.specs.declared.End as End
 use Rattle.fields.specs.declared.End.the-variants as end
 use Rattle.fields.proofs.End.{the-type}
-use Rattle.paper.specs.Comparison.{Shape, same-text, a-number, a-name, lettered, fits, fault-shape, line-shapes, well-shaped, past, a-rule, count-of, pieces, bad-from, bad-behind, bad-first, bad-line, parting, refused-or, compared}
+use Rattle.paper.specs.Comparison.{Shape, same-text, a-number, a-name, lettered, fits, fault-shape, fault-shapes, fault-shaped, unreached-shaped, past, a-rule, count-of, pieces, bad-from, bad-behind, bad-first, bad-line, parting, refused-or, compared}
 use Rattle.compare.specs.Places.{shape-of, shapes-of, codes-of-lines, place-told, field-place, behind-place, line-place, header-told, PlaceWithin}
 use Rattle.compare.specs.declared.Place.{Place}
 use Rattle.compare.specs.declared.Place.the-variants.{At, Bad}
@@ -232,14 +232,14 @@ unfoldable pub any-row : Bytes → ℕ → List (List ℕ) → Bool
 any-row s at [] = false
 any-row s at (codes ∷ rows) = fits-row s at codes || any-row s at rows
 
-all-rows : (s : Bytes) (at : ℕ) → any-row s at codes-of-lines ≡ well-shaped (line-at s at)
-unfolding any-row codes-of-lines well-shaped any line-shapes fault-shape shape-of digits digit-from
+all-rows : (s : Bytes) (at : ℕ) → any-row s at codes-of-lines ≡ fault-shaped (line-at s at)
+unfolding any-row codes-of-lines fault-shaped any fault-shapes fault-shape shape-of digits digit-from
 all-rows s at = refl
 
 -- the rows from k on decide
 pub record Rowing (s : Bytes) (at k : ℕ) : Type 0 where
   pub few : k ≤ 7
-  pub left : line-place (well-shaped (line-at s at)) s at ≡ line-place (any-row s at (drop k codes-of-lines)) s at
+  pub left : line-place (fault-shaped (line-at s at)) s at ≡ line-place (any-row s at (drop k codes-of-lines)) s at
 
 pub rowing-first : (s : Bytes) (at : ℕ) → Rowing s at 0
 rowing-first s at = record { few = omega arith; left = ap (λ (good : Bool). line-place good s at) (sym (all-rows s at)) }
@@ -275,7 +275,8 @@ module _ {s : Bytes} {at k : ℕ} (w : Rowing s at k) where
     here : drop k codes-of-lines ≡ getD codes-of-lines k [] ∷ drop (suc k) codes-of-lines
     here = drop-cons codes-of-lines k [] (omega (arith, seven))
 
-    pub row-good : {place : ℕ} → At place ≡ line-place (fits-row s at (getD codes-of-lines k [])) s at → At place ≡ line-place (well-shaped (line-at s at)) s at
+    pub row-good : {place : ℕ} → At place ≡ line-place (fits-row s at (getD codes-of-lines k [])) s at
+        → At place ≡ line-place (fault-shaped (line-at s at)) s at
     unfolding line-place place-told any-row
     row-good e =
         let feed : Bool = eqb (getD s (line-end s at) 0) line-feed in
@@ -289,11 +290,16 @@ module _ {s : Bytes} {at k : ℕ} (w : Rowing s at k) where
         let t = told-none (line-end s at) (fits-row s at (getD codes-of-lines k []) && feed) e in
         record { few = omega arith; left = w .left ∙ rw (here, skipped (fits-row s at (getD codes-of-lines k [])) (any-row s at (drop (suc k) codes-of-lines)) feed t, add-one k) }
 
-  pub no-row : 7 ≤ k → Bad ≡ line-place (well-shaped (line-at s at)) s at
+  pub no-row : 7 ≤ k → Bad ≡ line-place (fault-shaped (line-at s at)) s at
   unfolding line-place place-told any-row
   no-row h =
       let all : length codes-of-lines ≤ k = omega (arith, seven) in
       rw (w .left, drop-of-length-le codes-of-lines all)
+
+-- the line of an unreached block
+pub unreached-codes : (s : Bytes) (at : ℕ) → fits (shapes-of (78 ∷ 0 ∷ [])) (fields (line-at s at)) ≡ unreached-shaped (line-at s at)
+unfolding unreached-shaped shape-of
+unreached-codes s at = refl
 
 -- the header, field by field: from each place on the rest of it is read by f
 
@@ -405,11 +411,12 @@ shape-bad : (x y : Bool) → (x && y) ≡ false → y ≡ true → x ≡ false
 shape-bad true y e q = sym q ∙ e
 shape-bad false y e q = refl
 
--- the lines from `at` on decide
-pub record Judging (s : Bytes) (count line at : ℕ) : Type 0 where
+-- the lines from `at` on decide, behind so many faults
+pub record Judging (s : Bytes) (count faults line at : ℕ) : Type 0 where
   pub within : at ≤ length s
   pub few : line ≤ at + 1
-  pub left : bad-line s ≡ bad-from count line (pieces (drop at s))
+  pub fewer : faults ≤ at
+  pub left : bad-line s ≡ bad-from count faults line (pieces (drop at s))
 
 abbrev HeaderTells : Bytes → Number-read.Number → Type 0
 HeaderTells s number.Bad = cond (feed s 0) (count-of (fields (line-at s 0))) none ≡ none
@@ -436,7 +443,7 @@ module _ (s : Bytes) where
       (λ y. rw (whole, y, not-empty (pieces (drop (line-end s 0 + 1) s)) (pieces-some (drop (line-end s 0 + 1) s)), rw y at t))
       λ y. rw (whole, y)
 
-  pub judging-first : {count place : ℕ} → place < length s → number.Value count place ≡ header-told s → Judging s count 2 (place + 1)
+  pub judging-first : {count place : ℕ} → place < length s → number.Value count place ≡ header-told s → Judging s count 0 2 (place + 1)
   unfolding bad-first bad-behind
   judging-first {count} {place} h e =
       let t : (cond (feed s 0) (count-of (fields (line-at s 0))) none ≡ some count) × (place ≡ line-end s 0) = rw (sym e) at (header-tells s) in
@@ -444,43 +451,73 @@ module _ (s : Bytes) where
       (λ y. record {
         within = omega arith;
         few = omega arith;
+        fewer = omega arith;
         left = rw (whole, y, not-empty (pieces (drop (line-end s 0 + 1) s)) (pieces-some (drop (line-end s 0 + 1) s)), rw y at (t .0), t .1);
       })
       λ y. absurd (let z : _≡_ {A = ℕ} 0 1 = cc (rw y at (t .0)) in omega arith)
 
-module _ {s : Bytes} {count line at : ℕ} (w : Judging s count line at) where
+module _ {s : Bytes} {count faults line at : ℕ} (w : Judging s count faults line at) where
   module _ (h : at < length s) where
-    pub line-bad : Bad ≡ line-place (well-shaped (line-at s at)) s at → line ≡ bad-line s
-    unfolding bad-from line-place empty
-    line-bad e =
-        let t : (well-shaped (line-at s at) && feed s at) ≡ false = told-none (line-end s at) (well-shaped (line-at s at) && feed s at) e in
-        by-test (feed s at)
-        (λ y. rw (w .left, pieces-at s at, y, not-empty (pieces (drop (line-end s at + 1) s)) (pieces-some (drop (line-end s at + 1) s)), shape-bad (well-shaped (line-at s at)) (feed s at) t y))
-        λ y. rw (w .left, pieces-at s at, y, line-some s at h y)
+    abbrev is-fault : Bool
+    is-fault = fault-shaped (line-at s at)
 
-    pub line-good : {place : ℕ} → at ≤ place → place < length s → At place ≡ line-place (well-shaped (line-at s at)) s at → Judging s count (line + 1) (place + 1)
+    abbrev is-unreached : Bool
+    is-unreached = unreached-shaped (line-at s at)
+
+    -- there are lines behind one that LF closes
+    later : empty (pieces (drop (line-end s at + 1) s)) ≡ false
+    later = not-empty (pieces (drop (line-end s at + 1) s)) (pieces-some (drop (line-end s at + 1) s))
+
+    pub fault-good : {place : ℕ} → at ≤ place → place < length s → At place ≡ line-place is-fault s at → Judging s count (faults + 1) (line + 1) (place + 1)
     unfolding bad-from line-place
-    line-good {place} a b e =
-        let t = told-at (line-end s at) (well-shaped (line-at s at) && feed s at) e in
-        let y : feed s at ≡ true = and-right (well-shaped (line-at s at)) (feed s at) (t .0) in
-        let x : well-shaped (line-at s at) ≡ true = and-left _ _ (t .0) in
+    fault-good {place} a b e =
+        let t = told-at (line-end s at) (is-fault && feed s at) e in
+        let y : feed s at ≡ true = and-right is-fault (feed s at) (t .0) in
+        let x : is-fault ≡ true = and-left _ _ (t .0) in
         record {
           within = omega arith;
           few = omega (arith, w .few);
-          left = w .left ∙ rw (pieces-at s at, y, not-empty (pieces (drop (line-end s at + 1) s)) (pieces-some (drop (line-end s at + 1) s)), x, t .1, add-one line);
+          fewer = omega (arith, w .fewer);
+          left = w .left ∙ rw (pieces-at s at, y, later, x, t .1, add-one line, add-one faults);
         }
+
+    module _ (no-fault : Bad ≡ line-place is-fault s at) where
+      not-closed : (is-fault && feed s at) ≡ false
+      unfolding line-place
+      not-closed = told-none (line-end s at) (is-fault && feed s at) no-fault
+
+      pub line-bad : Bad ≡ line-place is-unreached s at → line ≡ bad-line s
+      unfolding bad-from line-place empty
+      line-bad e =
+          let t : (is-unreached && feed s at) ≡ false = told-none (line-end s at) (is-unreached && feed s at) e in
+          by-test (feed s at)
+          (λ y. rw (w .left, pieces-at s at, y, later, shape-bad is-fault (feed s at) not-closed y, shape-bad is-unreached (feed s at) t y))
+          λ y. rw (w .left, pieces-at s at, y, line-some s at h y)
+
+      pub unreached-good : {place : ℕ} → at ≤ place → place < length s → At place ≡ line-place is-unreached s at → Judging s count faults (line + 1) (place + 1)
+      unfolding bad-from line-place
+      unreached-good {place} a b e =
+          let t = told-at (line-end s at) (is-unreached && feed s at) e in
+          let y : feed s at ≡ true = and-right is-unreached (feed s at) (t .0) in
+          let x : is-unreached ≡ true = and-left _ _ (t .0) in
+          record {
+            within = omega arith;
+            few = omega (arith, w .few);
+            fewer = omega (arith, w .fewer);
+            left = w .left ∙ rw (pieces-at s at, y, later, shape-bad is-fault (feed s at) not-closed y, x, t .1, add-one line);
+          }
 
   module _ (h : length s ≤ at) where
     over : pieces (drop at s) ≡ [] ∷ []
     over = rw (drop-of-length-le s h) pieces-none
 
-    pub count-right : count + 2 ≡ line → 0 ≡ bad-line s
+    pub count-right : count ≡ faults → 0 ≡ bad-line s
     unfolding bad-from empty
-    count-right e = rw (w .left, over, eq-eqb (count + 2) line e)
+    count-right e = rw (w .left, over, eq-eqb count faults e)
 
-    pub count-wrong : (count + 2 ≡ line → ⊥) → 1 ≡ bad-line s
+    pub count-wrong : (count ≡ faults → ⊥) → 1 ≡ bad-line s
     unfolding bad-from empty
-    count-wrong d = rw (w .left, over, ne-eqb (count + 2) line d)
+    count-wrong d = rw (w .left, over, ne-eqb count faults d)
 
 -- two reports
 

@@ -13,7 +13,7 @@ use Rattle.paper.specs.Refusals.{any}
 use Rattle.fields.specs.Fields.{field-at, field-end, line-at, line-end, number-told}
 use Rattle.fields.specs.declared.Number.{Number}
 use Rattle.fields.specs.declared.Number.the-variants as number
-use Rattle.paper.specs.Comparison.{Shape, same-text, a-number, a-name, lettered, a-rule, fits, well-shaped, count-of, compared, longer, rest-place, rest-of}
+use Rattle.paper.specs.Comparison.{Shape, same-text, a-number, a-name, lettered, a-rule, fits, fault-shaped, count-of, compared, longer, rest-place, rest-of}
 use Rattle.compare.specs.declared.Place.{Place}
 use Rattle.compare.specs.declared.Place.the-variants.{At, Bad}
 use Rattle.paper.specs.declared.Compared.{Compared}
@@ -31,7 +31,7 @@ shape-of code =
 abbrev pub shapes-of : List ℕ → List Shape
 shapes-of codes = map shape-of codes
 
--- the lines that may stand behind the header, by their fields' codes
+-- a fault's lines, by their fields' codes
 unfoldable pub codes-of-lines : List (List ℕ)
 codes-of-lines =
     (69 ∷ 0 ∷ 0 ∷ 0 ∷ 49 ∷ 45 ∷ 1 ∷ 45 ∷ [])

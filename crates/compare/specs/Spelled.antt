@@ -1,8 +1,10 @@
 -- What a report's text is read as: a report that is written of lines whose numbers have at most five digits is well formed. So
--- whatever is answered to a sheet that is read, under either rule, is a well-formed report.
-use mathlib.Core.Path.{_≡_, refl, sym, ap, _∙_}
+-- whatever is answered to a sheet that is read, under either rule, is a well-formed report. And the text `N b` is one of its lines
+-- exactly when no allocation is missing and no walk comes to block b.
+use mathlib.Core.Path.{_≡_, refl, sym, ap, _∙_, subst}
 use mathlib.Core.Bool.{Bool, true, false, cond, not, _&&_, true≢false}
-use mathlib.Core.List.{List, [], _∷_, _++_, append-assoc}
+use mathlib.Core.Logic.{_↔_}
+use mathlib.Core.List.{List, [], _∷_, _++_, append-assoc, append-nil, nil≢cons}
 use mathlib.Core.Option.{Option, none, some}
 use Prim.Native.Nat.{ℕ, suc, _+_}
 use native.Mathlib.Nat.{add-zero}
@@ -15,16 +17,19 @@ use Rattle.paper.specs.Text.{Bytes, tab, line-feed, parts, onto-first, fields, 
 use Rattle.paper.specs.Steps.{Fault, missing-allocation-for-reg, unknown-value-in-reg, incorrect-value-in-reg, unknown-value-in-slot, incorrect-value-in-slot, stack-map-specifies-non-ref-slot, stack-map-specifies-undefined-slot}
 use Rattle.paper.specs.Sheet.{Sheet}
 use Rattle.paper.specs.Refusals.{_>>=_, next, ended, any, empty, loaded, read}
-use Rattle.paper.specs.Report.{Line, kind-of, reg-text, slot-text, fault-fields, behind-tabs, line-text, lines-text, rule-text, header-text, report-text, letter-E, letter-R, faults}
-use Rattle.paper.specs.Answer.{said-of, said-after, answer, written}
+use Rattle.paper.specs.Report.{Line, Entry, fault-entry, unreached-entry, entries, faults-in, kind-of, reg-text, slot-text, fault-fields, behind-tabs, line-text, unreached-text, entry-text, lines-text, rule-text, header-text, report-text, letter-E, letter-N, letter-R}
+use Rattle.paper.specs.Answer.{said-by, said-of, said-after, answer, written}
+use Rattle.paper.specs.Walks.{In, here, there}
 use Rattle.paper.specs.declared.Rule.{Rule}
 use Rattle.paper.specs.declared.Rule.the-variants.{Old, House}
-use Rattle.paper.specs.Comparison.{given, same-text, a-number, a-name, lettered, fits, fault-shape, line-shapes, well-shaped, past, a-rule, count-of, pieces, bad-from, bad-behind, bad-first, bad-line}
+use Rattle.paper.specs.Comparison.{given, same-text, a-number, a-name, lettered, fits, fault-shape, fault-shapes, fault-shaped, unreached-shaped, past, a-rule, count-of, pieces, bad-from, bad-behind, bad-first, bad-line}
 use Rattle.fields.specs.Fields.{ends-field, name-made}
 use Rattle.fields.specs.Spelling.{number, digit-range, number-of-digits, name-of-text}
 use Rattle.fields.specs.Told.{unbroken}
-use Rattle.walks.specs.Small.{Small, SmallName, SmallReg, SmallFault, SmallLine, SmallLines}
-use Rattle.walks.specs.Theorems.{read-reported}
+use Rattle.walks.specs.Choices.{some-inj, in-nil}
+use Rattle.walks.specs.Unreached.{Unwalked}
+use Rattle.walks.specs.Small.{Small, SmallName, SmallReg, SmallFault, SmallLine, SmallEntries, SmallReport}
+use Rattle.walks.specs.Theorems.{read-reported, ReadSheet, read-sheet}
 use Rattle.compare.specs.Pieces.{pieces-none, pieces-feed, pieces-more, pieces-some, not-empty}
 
 -- fields without a tab or a line feed
@@ -164,8 +169,8 @@ small-kind (stack-map-specifies-non-ref-slot k) = omega arith
 small-kind (stack-map-specifies-undefined-slot k) = omega arith
 
 module _ (block place inst : ℕ) (hb : Small block) (hp : Small place) (hi : Small inst) where
-  shapes-fit : (f : Fault) → SmallFault f → any (λ shapes. fits shapes ((letter-E ∷ []) ∷ behind-letter block place inst f)) line-shapes ≡ true
-  unfolding any line-shapes fault-shape fits same-text fault-fields kind-of empty
+  shapes-fit : (f : Fault) → SmallFault f → any (λ shapes. fits shapes ((letter-E ∷ []) ∷ behind-letter block place inst f)) fault-shapes ≡ true
+  unfolding any fault-shapes fault-shape fits same-text fault-fields kind-of empty
   shapes-fit (missing-allocation-for-reg n) h =
       rw (read-number block hb, read-number place hp, read-number inst hi, kind-digits .0, read-name n h)
   shapes-fit (unknown-value-in-reg r) h =
@@ -194,8 +199,8 @@ plain-E : unbroken (letter-E ∷ []) ≡ true
 unfolding unbroken ends-field
 plain-E = refl
 
-line-shaped : (l : Line) → SmallLine l → well-shaped (row-of l) ≡ true
-unfolding well-shaped
+line-shaped : (l : Line) → SmallLine l → fault-shaped (row-of l) ≡ true
+unfolding fault-shaped
 line-shaped l h =
     rw (row-fields (letter-E ∷ []) (behind-letter (l .block) (l .place) (l .inst) (l .fault)) plain-E (line-plain l h))
     (shapes-fit (l .block) (l .place) (l .inst) (h .block) (h .place) (h .inst) (l .fault) (h .fault))
@@ -206,15 +211,59 @@ line-piece l rest h =
     ap (λ (t : Bytes). pieces (letter-E ∷ t)) (row-closed (behind-letter (l .block) (l .place) (l .inst) (l .fault)) rest)
     ∙ piece-of (letter-E ∷ []) (behind-letter (l .block) (l .place) (l .inst) (l .fault)) rest plain-E (line-plain l h)
 
-lines-judged : (count line : ℕ) (ls : List Line) → SmallLines ls → bad-from count line (pieces (lines-text ls)) ≡ cond (eqb (count + 2) (line + length ls)) 0 1
-unfolding lines-text SmallLines bad-from empty
-lines-judged count line [] h = rw (pieces-none, add-zero line) ended-well
+-- the line of an unreached block
+
+abbrev unreached-row : ℕ → Bytes
+unreached-row block = (letter-N ∷ []) ++ row (digits block ∷ [])
+
+plain-N : unbroken (letter-N ∷ []) ≡ true
+unfolding unbroken ends-field
+plain-N = refl
+
+unreached-plain : (block : ℕ) → Small block → Plain (digits block ∷ [])
+unfolding Plain
+unreached-plain block h = (plain-number block h, (tt))
+
+unreached-fields : (block : ℕ) → Small block → fields (unreached-row block) ≡ (letter-N ∷ []) ∷ digits block ∷ []
+unreached-fields block h = row-fields (letter-N ∷ []) (digits block ∷ []) plain-N (unreached-plain block h)
+
+unreached-no-fault : (block : ℕ) → Small block → fault-shaped (unreached-row block) ≡ false
+unfolding fault-shaped any fault-shapes fault-shape fits same-text
+unreached-no-fault block h = rw (unreached-fields block h)
+
+unreached-fits : (block : ℕ) → Small block → unreached-shaped (unreached-row block) ≡ true
+unfolding unreached-shaped fits same-text empty
+unreached-fits block h = rw (unreached-fields block h, read-number block h)
+
+unreached-piece : (block : ℕ) (rest : Bytes) → Small block → pieces (unreached-text block ++ rest) ≡ unreached-row block ∷ pieces rest
+unfolding unreached-text
+unreached-piece block rest h =
+    ap (λ (t : Bytes). pieces (letter-N ∷ t)) (row-closed (digits block ∷ []) rest)
+    ∙ piece-of (letter-N ∷ []) (digits block ∷ []) rest plain-N (unreached-plain block h)
+
+-- all lines
+
+later-some : (es : List Entry) → empty (pieces (lines-text es)) ≡ false
+later-some es = not-empty (pieces (lines-text es)) (pieces-some (lines-text es))
+
+lines-judged : (count faults line : ℕ) (es : List Entry) → SmallEntries es
+    → bad-from count faults line (pieces (lines-text es)) ≡ cond (eqb count (faults + length (faults-in es))) 0 1
+unfolding lines-text entry-text SmallEntries faults-in bad-from empty
+lines-judged count faults line [] h = rw (pieces-none, add-zero faults) ended-well
   where
-    ended-well : bad-from count line ([] ∷ []) ≡ cond (eqb (count + 2) line) 0 1
+    ended-well : bad-from count faults line ([] ∷ []) ≡ cond (eqb count faults) 0 1
     ended-well = refl
-lines-judged count line (l ∷ ls) h =
-    let q : line + suc (length ls) ≡ suc line + length ls = omega arith in
-    rw (line-piece l (lines-text ls) (h .0), not-empty (pieces (lines-text ls)) (pieces-some (lines-text ls)), line-shaped l (h .0), lines-judged count (suc line) ls (h .1), q)
+lines-judged count faults line (fault-entry l ∷ es) h =
+    let q : faults + suc (length (faults-in es)) ≡ suc faults + length (faults-in es) = omega arith in
+    rw (line-piece l (lines-text es) (h .0), later-some es, line-shaped l (h .0), lines-judged count (suc faults) (suc line) es (h .1), q)
+lines-judged count faults line (unreached-entry b ∷ es) h =
+    rw (
+      unreached-piece b (lines-text es) (h .0),
+      later-some es,
+      unreached-no-fault b (h .0),
+      unreached-fits b (h .0),
+      lines-judged count faults (suc line) es (h .1),
+    )
 
 -- the header
 
@@ -236,23 +285,125 @@ unfolding count-of past same-text a-rule rule-text next ended
 header-counts Old n h = rw (number-of-digits n h)
 header-counts House n h = rw (number-of-digits n h)
 
--- whatever is written of such lines, under either rule, is well formed
-pub written-well : (rule : Rule) (ls : List Line) → SmallLines ls → Small (length ls) → bad-line (report-text rule ls) ≡ 0
-unfolding report-text header-text bad-line bad-first bad-behind
-written-well rule ls h few =
-    let fs : List Bytes = rule-text rule ∷ digits (length ls) ∷ [] in
-    let p = header-plain rule (length ls) few in
-    rw (row-closed fs (lines-text ls), piece-of (letter-R ∷ []) fs (lines-text ls) plain-R p, not-empty (pieces (lines-text ls)) (pieces-some (lines-text ls)), row-fields (letter-R ∷ []) fs plain-R p, header-counts rule (length ls) few, lines-judged (length ls) 2 ls h, eq-eqb (length ls + 2) (2 + length ls) (omega arith))
+-- the header, and the lines behind it
+report-pieces : (rule : Rule) (es : List Entry) → Small (length (faults-in es))
+    → pieces (report-text rule es) ≡ ((letter-R ∷ []) ++ row (rule-text rule ∷ digits (length (faults-in es)) ∷ [])) ∷ pieces (lines-text es)
+unfolding report-text header-text
+report-pieces rule es few =
+    let fs : List Bytes = rule-text rule ∷ digits (length (faults-in es)) ∷ [] in
+    rw (row-closed fs (lines-text es), piece-of (letter-R ∷ []) fs (lines-text es) plain-R (header-plain rule (length (faults-in es)) few))
 
--- what is written of a sheet that is read is the report of its faults
-said-text : (rule : Rule) (ls : List Line) → written (said-of rule ls) ≡ report-text rule ls
-unfolding said-of written
-said-text rule [] = refl
-said-text rule (l ∷ ls) = refl
+-- whatever is written of such lines, under either rule, is well formed
+pub written-well : (rule : Rule) (es : List Entry) → SmallEntries es → Small (length (faults-in es)) → bad-line (report-text rule es) ≡ 0
+unfolding bad-line bad-first bad-behind
+written-well rule es h few =
+    let count : ℕ = length (faults-in es) in
+    let fs : List Bytes = rule-text rule ∷ digits count ∷ [] in
+    rw (
+      report-pieces rule es few,
+      later-some es,
+      row-fields (letter-R ∷ []) fs plain-R (header-plain rule count few),
+      header-counts rule count few,
+      lines-judged count 0 2 es h,
+      eq-eqb count (0 + count) (omega arith),
+    )
+
+-- what is written of a sheet that is read is the report of its lines
+said-text : (rule : Rule) (es : List Entry) → written (said-of rule es) ≡ report-text rule es
+unfolding said-of said-by written
+said-text rule es = at (faults-in es)
+  where
+    at : (ls : List Line) → written (said-by ls (report-text rule es)) ≡ report-text rule es
+    at [] = refl
+    at (l ∷ ls) = refl
+
+pub answer-text : (rule : Rule) (bytes : Bytes) (S : Sheet) → read bytes ≡ loaded S → written (answer rule bytes) ≡ report-text rule (entries rule S)
+unfolding answer said-after
+answer-text rule bytes S e = rw (e, said-text rule (entries rule S))
 
 -- under either rule, and it is well formed
 pub report-well-formed : (rule : Rule) (bytes : Bytes) (S : Sheet) → read bytes ≡ loaded S → bad-line (written (answer rule bytes)) ≡ 0
-unfolding answer said-after
 report-well-formed rule bytes S e =
     let r = read-reported rule bytes S e in
-    rw (e, said-text rule (faults rule S)) (written-well rule (faults rule S) (r .lines) (r .count))
+    rw (answer-text rule bytes S e) (written-well rule (entries rule S) (r .lines) (r .count))
+
+-- Document 02, A5: the line `N b` among the report's lines
+
+-- its text, without LF
+unfoldable pub unreached-line : ℕ → Bytes
+unreached-line b = letter-N ∷ tab ∷ digits b
+
+line-is : (b : ℕ) → unreached-row b ≡ unreached-line b
+unfolding unreached-line row
+line-is b = ap (λ (t : Bytes). letter-N ∷ tab ∷ t) (append-nil (digits b))
+
+-- one number's digits are no other's
+digits-once : (b c : ℕ) → Small b → Small c → unreached-line b ≡ unreached-line c → b ≡ c
+unfolding unreached-line
+digits-once b c hb hc e =
+    let d : digits b ≡ digits c = cc in
+    some-inj (number-of-digits b hb) (ap number-of d ∙ number-of-digits c hc)
+
+module _ (b : ℕ) (hb : Small b) where
+  line-entry : (es : List Entry) → SmallEntries es → In (unreached-line b) (pieces (lines-text es)) → In (unreached-entry b) es
+  unfolding lines-text entry-text SmallEntries unreached-line row
+  line-entry [] h i = none-there (subst (In (unreached-line b)) pieces-none i)
+    where
+      none-there : In (unreached-line b) ([] ∷ []) → In (unreached-entry b) []
+      none-there (here e) = absurd (nil≢cons (sym e))
+      none-there (there j) = absurd (in-nil j)
+  line-entry (fault-entry l ∷ es) h i = behind (subst (In (unreached-line b)) (line-piece l (lines-text es) (h .0)) i) (line-entry es (h .1))
+    where
+      behind : In (unreached-line b) (row-of l ∷ pieces (lines-text es)) → (In (unreached-line b) (pieces (lines-text es)) → In (unreached-entry b) es)
+          → In (unreached-entry b) (fault-entry l ∷ es)
+      behind (here e) rec = let z : _≡_ {A = ℕ} letter-N letter-E = cc in absurd (omega arith)
+      behind (there j) rec = there (rec j)
+  line-entry (unreached-entry c ∷ es) h i = behind (subst (In (unreached-line b)) (unreached-piece c (lines-text es) (h .0)) i) (line-entry es (h .1))
+    where
+      behind : In (unreached-line b) (unreached-row c ∷ pieces (lines-text es)) → (In (unreached-line b) (pieces (lines-text es)) → In (unreached-entry b) es)
+          → In (unreached-entry b) (unreached-entry c ∷ es)
+      behind (here e) rec = here (ap unreached-entry (digits-once b c hb (h .0) (e ∙ line-is c)))
+      behind (there j) rec = there (rec j)
+
+  entry-line : (es : List Entry) → SmallEntries es → In (unreached-entry b) es → In (unreached-line b) (pieces (lines-text es))
+  unfolding lines-text entry-text SmallEntries
+  entry-line [] h i = absurd (in-nil i)
+  entry-line (fault-entry l ∷ es) h (here e) = let z : _≡_ {A = ℕ} 0 1 = cc in absurd (omega arith)
+  entry-line (fault-entry l ∷ es) h (there i) = subst (In (unreached-line b)) (sym (line-piece l (lines-text es) (h .0))) (there (entry-line es (h .1) i))
+  entry-line (unreached-entry c ∷ es) h (here e) =
+      let same : b ≡ c = cc in
+      subst (In (unreached-line b)) (sym (unreached-piece c (lines-text es) (h .0))) (here (ap unreached-line same ∙ sym (line-is c)))
+  entry-line (unreached-entry c ∷ es) h (there i) =
+      subst (In (unreached-line b)) (sym (unreached-piece c (lines-text es) (h .0))) (there (entry-line es (h .1) i))
+
+  -- it is no header
+  no-header : (fs : List Bytes) → unreached-line b ≡ (letter-R ∷ []) ++ row fs → ⊥
+  unfolding unreached-line
+  no-header fs e = let z : _≡_ {A = ℕ} letter-N letter-R = cc in omega arith
+
+  -- of what is answered to a sheet that is read: it stands there exactly when no allocation is missing, b is a block, and no walk comes
+  pub named-exactly : (bytes : Bytes) (S : Sheet) → read bytes ≡ loaded S
+      → In (unreached-line b) (pieces (written (answer House bytes))) ↔ Unwalked S b
+  named-exactly bytes S e = (
+    λ i. known .unreached b .0 (line-entry es (r .lines) (behind-header (subst (In (unreached-line b)) whole i))),
+    λ u. subst (In (unreached-line b)) (sym whole) (there (entry-line es (r .lines) (known .unreached b .1 u))),
+  )
+    where
+      es : List Entry
+      es = entries House S
+
+      r : SmallReport es
+      r = read-reported House bytes S e
+
+      known : ReadSheet S
+      known = read-sheet bytes S e
+
+      header : List Bytes
+      header = rule-text House ∷ digits (length (faults-in es)) ∷ []
+
+      whole : pieces (written (answer House bytes)) ≡ ((letter-R ∷ []) ++ row header) ∷ pieces (lines-text es)
+      whole = ap pieces (answer-text House bytes S e) ∙ report-pieces House es (r .count)
+
+      behind-header : In (unreached-line b) (((letter-R ∷ []) ++ row header) ∷ pieces (lines-text es)) → In (unreached-line b) (pieces (lines-text es))
+      behind-header (here q) = absurd (no-header header q)
+      behind-header (there j) = j

@@ -5,7 +5,7 @@ ghost use Prim.Native.Nat.{_+_, _≤_, _<_};
 ghost use lib.ListN.{length};
 ghost use Rattle.paper.specs.Text.{fields};
 ghost use Rattle.fields.specs.Fields.{ends-field, line-at};
-ghost use Rattle.paper.specs.Comparison.{same-text, a-number, a-name, a-rule, lettered, fits, well-shaped, bad-line, parting, pieces, compared, longer, rest-place};
+ghost use Rattle.paper.specs.Comparison.{same-text, a-number, a-name, a-rule, lettered, fits, fault-shaped, unreached-shaped, bad-line, parting, pieces, compared, longer, rest-place};
 ghost use Rattle.compare.specs.Places.{shape-of, shapes-of, field-place, behind-place, line-place, header-told, PlaceWithin, LineWithin, HeaderWithin, ComparedWithin, PartOf, Handed, judgement-of};
 ghost use mathlib.Core.List.{[], _∷_};
 ghost use Rattle.lists.specs.Sets.{Wrote};
@@ -48,7 +48,7 @@ const FIELDS: usize = 8;
 
 const KINDS: usize = 7;
 
-// The lines that may stand behind the header: a fault of each kind.
+// The lines of faults, one for each kind.
 const SHAPES: [[u8; FIELDS]; KINDS] = [
     [b'E', NUMBER, NUMBER, NUMBER, b'1', b'-', NAME, b'-'],
     [b'E', NUMBER, NUMBER, NUMBER, b'2', REGISTER, b'-', b'-'],
@@ -187,10 +187,10 @@ fn line_of(s: &[u8], at: usize, codes: &[u8]) -> Place
     }
 }
 
-// A line that may stand behind the header: the place of its line feed.
+// A fault's line: the place of its line feed.
 fn line_at(s: &[u8], at: usize) -> Place
     requires { ⌜ at ≤ length (now s) ⌝ }
-    ensures { λ r. ⌜ r ≡ line-place (well-shaped (line-at (now (s .entry)) at)) (now (s .entry)) at ⌝ }
+    ensures { λ r. ⌜ r ≡ line-place (fault-shaped (line-at (now (s .entry)) at)) (now (s .entry)) at ⌝ }
     ensures within { λ r. ⌜ LineWithin (now (s .entry)) at r ⌝ }
 {
     let mut k: usize = 0;
@@ -203,6 +203,16 @@ fn line_at(s: &[u8], at: usize) -> Place
         k += 1;
     }
     Place::Bad
+}
+
+// An unreached block's line: the place of its line feed.
+fn unreached_at(s: &[u8], at: usize) -> Place
+    requires { ⌜ at ≤ length (now s) ⌝ }
+    ensures { λ r. ⌜ r ≡ line-place (unreached-shaped (line-at (now (s .entry)) at)) (now (s .entry)) at ⌝ }
+    ensures within { λ r. ⌜ LineWithin (now (s .entry)) at r ⌝ }
+{
+    let codes = [b'N', NUMBER];
+    line_of(s, at, &codes)
 }
 
 // A rule's name behind a tab at `at`.
@@ -256,15 +266,23 @@ fn bad_line(s: &[u8]) -> usize
         return 1;
     };
     let mut at = end + 1;
+    let mut faults: usize = 0;
     let mut line: usize = 2;
     while at < s.len() {
-        let Place::At(next) = line_at(s, at) else {
+        let place = line_at(s, at);
+        if let Place::At(next) = place {
+            at = next + 1;
+            faults += 1;
+            line += 1;
+            continue;
+        }
+        let Place::At(next) = unreached_at(s, at) else {
             return line;
         };
         at = next + 1;
         line += 1;
     }
-    if count as usize + 2 == line { 0 } else { 1 }
+    if count as usize == faults { 0 } else { 1 }
 }
 
 // Where two texts part: the line, and the place of its first byte.

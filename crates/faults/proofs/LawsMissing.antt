@@ -6,7 +6,8 @@ use Prim.Native.Nat.{ℕ, suc, _+_, _-_, _≤_, _<_}
 use native.Mathlib.Numerals.{add-one}
 use native.Mathlib.Omega.{arith}
 use Rattle.paper.specs.Sheet.{Step, Sheet, steps-of}
-use Rattle.paper.specs.Report.{Line, inst-of, first-list, unallocated, missing-names, missing-from, missing-blocks, faults, names-lines}
+use Rattle.paper.specs.Text.{Name}
+use Rattle.paper.specs.Report.{Line, fault-entry, inst-of, first-list, unallocated, missing-names, missing-from, missing-blocks, entries, names-lines}
 use Rattle.paper.specs.declared.Rule.{Rule}
 use Rattle.layout.specs.Layout.{defs-from}
 use Rattle.loaded.specs.Actions.{operands, step-of, action-at, steps-at}
@@ -107,11 +108,12 @@ no-lines-found words ls (Found block place k) m e = absurd (true≢false e)
 
 -- the step that was found
 
-pub faults-missing : (rule : Rule) (words : List ℕ) (block place k : ℕ) → MissingOf words (Found block place k)
-    → faults rule (sheet-of words) ≡ step-lines block place (step-of words (action-at words k))
-unfolding faults missing-lines step-lines names-lines
-faults-missing rule words block place k m =
-    rw (m .lines) (first-of-some _ _ (some-mapped _ (missing-names (step-of words (action-at words k))) ∙ m .within .3))
+pub entries-missing : (rule : Rule) (words : List ℕ) (block place k : ℕ) → MissingOf words (Found block place k)
+    → entries rule (sheet-of words) ≡ map fault-entry (step-lines block place (step-of words (action-at words k)))
+unfolding entries missing-lines step-lines names-lines
+entries-missing rule words block place k m =
+    let names = missing-names (step-of words (action-at words k)) in
+    rw (m .lines) (first-of-some _ _ (some-mapped fault-entry _ ∙ some-mapped _ names ∙ m .within .3))
 
 module _ (words : List ℕ) (inst at n m : ℕ) where
   uses-none : some-in (unallocated (operands at n words)) ≡ false
@@ -127,12 +129,12 @@ module _ (words : List ℕ) (inst at n m : ℕ) where
   some-defs e s = rw (← uses-none e) s
 
   pub lines-of-uses : (block place : ℕ) → some-in (unallocated (operands at n words)) ≡ true
-      → step-lines block place (step-of words (Operation inst at n m)) ≡ names-at (position block place) (unallocated (operands at n words))
+      → map fault-entry (step-lines block place (step-of words (Operation inst at n m))) ≡ names-at (position block place) (unallocated (operands at n words))
   unfolding names-at step-lines step-of missing-names inst-of
   lines-of-uses block place e = rw (first-of-some (unallocated (operands at n words)) (unallocated (operands (at + defs-from) m words)) e)
 
   pub lines-of-defs : (block place : ℕ) → some-in (unallocated (operands at n words)) ≡ false
-      → step-lines block place (step-of words (Operation inst at n m))
+      → map fault-entry (step-lines block place (step-of words (Operation inst at n m)))
       ≡ names-at (position block place) (unallocated (operands (at + defs-from) m words))
   unfolding names-at step-lines step-of inst-of
-  lines-of-defs block place e = ap (names-lines block place inst) (uses-none e)
+  lines-of-defs block place e = ap (λ (names : List Name). map fault-entry (names-lines block place inst names)) (uses-none e)

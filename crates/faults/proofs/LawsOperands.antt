@@ -10,7 +10,7 @@ use Rattle.lists.specs.Region.{region}
 use Rattle.lists.specs.Sets.{Wrote, then}
 use Rattle.lists.specs.Grown.{region-more}
 use Rattle.paper.specs.Sheet.{Operand}
-use Rattle.paper.specs.Report.{unallocated, lines-text, names-lines}
+use Rattle.paper.specs.Report.{unallocated, entry-text, lines-text, names-lines}
 use Rattle.cells.specs.Packed.{name-of-word}
 use Rattle.loaded.specs.Actions.{no-register, register-of, operand-of, operands}
 use Rattle.report.specs.Lines.{fields-line}
@@ -42,7 +42,7 @@ module _ (w : ℕ) where
 -- an operand's line, where it has no allocation
 module _ (p : Position) (w : ℕ) where
   pub line-missing : w / 1024 ≡ no-register → lines-text (names-at p (unallocated (operand-of w ∷ []))) ≡ fields-line p (missing-fields w)
-  unfolding names-at names-lines
+  unfolding names-at names-lines entry-text
   line-missing e = rw (one-missing w e) (one-line _ ∙ sym (missing-text p w))
 
   pub no-line-missing : (w / 1024 ≡ no-register → ⊥) → lines-text (names-at p (unallocated (operand-of w ∷ []))) ≡ []
@@ -71,7 +71,7 @@ module _ (from i : ℕ) (words : List ℕ) (h : from + i < length words) where
       → Wrote l₁ j (lines-text (names-at p (unallocated (operand-of (getD words (from + i) 0) ∷ [])))) l₂ k
       → Wrote l at (lines-text (names-at p (unallocated (operands from (i + 1) words)))) l₂ k
   unfolding names-at names-lines
-  wrote-more p before one = rw (missing-more, map-append, lines-append) (then before one)
+  wrote-more p before one = rw (missing-more, map-append, map-append, lines-append) (then before one)
 
 pub missing-none : (from : ℕ) (words : List ℕ) → unallocated (operands from 0 words) ≡ []
 unfolding operands region unallocated

@@ -1,12 +1,12 @@
 -- What is found, as a line of the report: where it stands, and its fields.
 use mathlib.Core.Path.{_≡_}
-use mathlib.Core.List.{List, [], _∷_}
+use mathlib.Core.List.{List, [], _∷_, map}
 use mathlib.Core.Option.{Option, none, some}
 use Prim.Native.Nat.{ℕ, _<_}
 use Rattle.paper.specs.Text.{Bytes, Name}
 use Rattle.paper.specs.Limits.{max-regs, max-slots}
 use Rattle.paper.specs.Steps.{Fault}
-use Rattle.paper.specs.Report.{Line, line-of, names-lines, kind-of, nothing, fault-fields}
+use Rattle.paper.specs.Report.{Entry, fault-entry, line-of, names-lines, kind-of, nothing, fault-fields}
 use Rattle.steps.specs.declared.CheckerError.{CheckerError}
 use Rattle.steps.specs.declared.CheckerError.the-variants as error
 use Rattle.report.specs.Lines.{field-texts}
@@ -15,11 +15,11 @@ use Rattle.report.specs.declared.Position.{Position}
 use Rattle.report.specs.declared.FaultFields.{FaultFields}
 
 -- the line of a fault, if there is one, and of each name that has no allocation
-unfoldable pub line-at : Position → Option Fault → List Line
-line-at p fault = line-of (p .block) (p .place) (p .inst) fault
+unfoldable pub line-at : Position → Option Fault → List Entry
+line-at p fault = map fault-entry (line-of (p .block) (p .place) (p .inst) fault)
 
-unfoldable pub names-at : Position → List Name → List Line
-names-at p names = names-lines (p .block) (p .place) (p .inst) names
+unfoldable pub names-at : Position → List Name → List Entry
+names-at p names = map fault-entry (names-lines (p .block) (p .place) (p .inst) names)
 
 -- a fault's kind and fields; kind 0 where there is no fault
 unfoldable pub kind-in : Option Fault → ℕ

@@ -1,14 +1,15 @@
-// Finding a sheet's faults, missing allocations first, then what the checks find, and having `report` write a line for each.
+// Finding a sheet's faults, missing allocations first, then what the checks find, and having `report` write a line for each, and for
+// each block that no walk comes to.
 ghost use mathlib.Core.Path.{_≡_};
 ghost use mathlib.Core.Bool.{true};
-ghost use mathlib.Core.List.{[], _∷_};
+ghost use mathlib.Core.List.{[], _∷_, map};
 ghost use Prim.Native.Nat.{_+_, _*_, _≤_, _<_};
 ghost use lib.ListN.{length, getD};
 ghost use Rattle.lists.specs.Sets.{Wrote};
 ghost use Rattle.paper.specs.Sheet.{steps-of};
-ghost use Rattle.paper.specs.Limits.{max-operands, max-steps, longest-fault-line, report-size};
-ghost use Rattle.paper.specs.Report.{block-faults, find-errors, unallocated, missing-from, faults, lines-text};
-ghost use Rattle.layout.specs.Layout.{blocks-word};
+ghost use Rattle.paper.specs.Limits.{max-blocks, max-operands, max-steps, longest-fault-line, longest-unreached-line, report-size};
+ghost use Rattle.paper.specs.Report.{block-faults, fault-entry, unreached-entry, block-entries, find-errors, unallocated, missing-from, entries, lines-text};
+ghost use Rattle.layout.specs.Layout.{blocks-word, run-words};
 ghost use Rattle.loaded.specs.Actions.{operand-of, operands};
 ghost use Rattle.steps.specs.Faults.{fault-of, some-in};
 ghost use Rattle.loaded.specs.Loaded.{step-total, sheet-of, Loaded};
@@ -16,9 +17,10 @@ ghost use Rattle.report.specs.Lines.{PositionWithin};
 ghost use Rattle.faults.specs.Errors.{FieldsOf, ErrorWithin, line-at, names-at};
 ghost use Rattle.faults.specs.Passes.{AfterPass};
 ghost use Rattle.faults.specs.Missing.{is-found, MissingIs, MissingOf};
-ghost use Rattle.faults.specs.Reported.{Checkable, Reported};
+ghost use Rattle.faults.specs.Reported.{Checkable, unmarked-lines, Reported};
 ghost use Rattle.faults.specs.declared.Missing.the-variants.{Found};
 use layout::DEFS_FROM;
+use layout::MARK_BASE;
 use layout::STATE_BASE;
 use layout::STATE_WORDS;
 use loaded::Action;
@@ -31,7 +33,7 @@ use report::Field;
 use report::Position;
 use steps::CheckerError;
 
-// What a pass over the faults does with each: counts it, or writes its line.
+// What a pass over the blocks does: counts the faults, or writes every line.
 pub enum Pass {
     Count,
     Write,
@@ -199,7 +201,7 @@ pub fn write_missing(
     k: usize,
 ) -> Answer
     requires { ⌜ Loaded (now words) × MissingOf (now words) (Found block place k) × (report-size ≤ length (now report)) ⌝ }
-    ensures { λ r. ⌜ Reported rule (faults rule (sheet-of (now (words .entry)))) (now (report .entry)) r (now (report .exit)) ⌝ }
+    ensures { λ r. ⌜ Reported rule (entries rule (sheet-of (now (words .entry)))) (now (report .entry)) r (now (report .exit)) ⌝ }
 {
     let Action::Operation {
         inst,
@@ -263,6 +265,17 @@ pub fn find_missing(words: &[u16]) -> Missing
     Missing::Nothing
 }
 
+// The line of a block that no walk comes to, where lines are written: it is not counted.
+fn note_unreached(pass: Pass, report: &mut [u8], at: usize, block: usize) -> usize
+    requires { ⌜ (block < max-blocks) × (at + longest-unreached-line ≤ length (now report)) ⌝ }
+    ensures { λ r. ⌜ AfterPass pass (unreached-entry block ∷ []) (now (report .entry)) at (now (report .exit)) r × (r ≤ at + longest-unreached-line) ⌝ }
+{
+    match pass {
+        Pass::Count => at,
+        Pass::Write => report::write_unreached(report, at, block),
+    }
+}
+
 // A block's steps, each checked in the state before it.
 fn check_block(
     pass: Pass,
@@ -273,7 +286,7 @@ fn check_block(
     block: usize,
 ) -> usize
     requires { ⌜ Checkable rule (now words) × (block < getD (now words) blocks-word 0) × (at + longest-fault-line * step-total (now words) block ≤ length (now report)) ⌝ }
-    ensures { λ r. ⌜ AfterPass pass (block-faults rule (sheet-of (now (words .entry))) block) (now (report .entry)) at (now (report .exit)) r × (r ≤ at + longest-fault-line * step-total (now (words .entry)) block) ⌝ }
+    ensures { λ r. ⌜ AfterPass pass (map fault-entry (block-faults rule (sheet-of (now (words .entry))) block)) (now (report .entry)) at (now (report .exit)) r × (r ≤ at + longest-fault-line * step-total (now (words .entry)) block) ⌝ }
 {
     let first = loaded::first_step(words, block);
     let count = loaded::step_total(words, block);
@@ -292,30 +305,66 @@ fn check_block(
     next
 }
 
-// Every block's steps, from its entry state.
+// A block's lines: one of its own where it has no mark, else those of its faults.
+fn block_lines(
+    pass: Pass,
+    rule: Rule,
+    words: &[u16],
+    report: &mut [u8],
+    at: usize,
+    block: usize,
+) -> usize
+    requires { ⌜ Checkable rule (now words) × (block < getD (now words) blocks-word 0) × (at + longest-fault-line * step-total (now words) block + longest-unreached-line ≤ length (now report)) ⌝ }
+    ensures { λ r. ⌜ AfterPass pass (block-entries rule (sheet-of (now (words .entry))) block) (now (report .entry)) at (now (report .exit)) r × (r ≤ at + longest-fault-line * step-total (now (words .entry)) block + longest-unreached-line) ⌝ }
+{
+    if words[MARK_BASE + block] == 0 {
+        return note_unreached(pass, report, at, block);
+    }
+    check_block(pass, rule, words, report, at, block)
+}
+
+// Every block's lines.
 fn find_errors(pass: Pass, rule: Rule, words: &[u16], report: &mut [u8], at: usize) -> usize
-    requires { ⌜ Checkable rule (now words) × (at + longest-fault-line * max-steps ≤ length (now report)) ⌝ }
-    ensures { λ r. ⌜ AfterPass pass (find-errors rule (sheet-of (now (words .entry)))) (now (report .entry)) at (now (report .exit)) r × (r ≤ at + longest-fault-line * max-steps) ⌝ }
+    requires { ⌜ Checkable rule (now words) × (at + longest-fault-line * max-steps + longest-unreached-line * max-blocks ≤ length (now report)) ⌝ }
+    ensures { λ r. ⌜ AfterPass pass (find-errors rule (sheet-of (now (words .entry)))) (now (report .entry)) at (now (report .exit)) r × (r ≤ at + longest-fault-line * max-steps + longest-unreached-line * max-blocks) ⌝ }
 {
     let blocks = loaded::blocks(words);
     let mut next = at;
     let mut block = 0;
     while block < blocks {
-        next = check_block(pass, rule, words, report, next, block);
+        next = block_lines(pass, rule, words, report, next, block);
         block += 1;
     }
     next
 }
 
-// The report of a sheet that was analysed: its faults are counted, and, where there are some, written behind the header.
+// The lines of the blocks without a mark: all lines of a sheet without a fault, whose steps are not looked at again.
+fn write_unmarked(words: &[u16], report: &mut [u8], at: usize) -> usize
+    requires { ⌜ Loaded (now words) × (run-words ≤ length (now words)) × (at + longest-unreached-line * max-blocks ≤ length (now report)) ⌝ }
+    ensures { λ r. ⌜ Wrote (now (report .entry)) at (lines-text (unmarked-lines (now (words .entry)))) (now (report .exit)) r × (r ≤ at + longest-unreached-line * max-blocks) ⌝ }
+{
+    let total = loaded::blocks(words);
+    let mut next = at;
+    let mut block = 0;
+    while block < total {
+        if words[MARK_BASE + block] == 0 {
+            next = report::write_unreached(report, next, block);
+        }
+        block += 1;
+    }
+    next
+}
+
+// The report of a sheet that was analysed: its faults are counted, and, where there are some, all lines written behind the header;
+// else those of unreached blocks.
 pub fn write_errors(rule: Rule, words: &[u16], report: &mut [u8]) -> Answer
     requires { ⌜ Checkable rule (now words) × (report-size ≤ length (now report)) ⌝ }
-    ensures { λ r. ⌜ Reported rule (faults rule (sheet-of (now (words .entry)))) (now (report .entry)) r (now (report .exit)) ⌝ }
+    ensures { λ r. ⌜ Reported rule (entries rule (sheet-of (now (words .entry)))) (now (report .entry)) r (now (report .exit)) ⌝ }
 {
     let count = find_errors(Pass::Count, rule, words, report, 0);
     let next = report::write_header(report, 0, rule, count);
     if count == 0 {
-        return Answer::Accepted(next);
+        return Answer::Accepted(write_unmarked(words, report, next));
     }
     Answer::Faulty(find_errors(Pass::Write, rule, words, report, next))
 }

@@ -27,13 +27,17 @@ pub const MAX_STEPS: usize = 1024;
 // Bytes of a sheet.
 pub const MAX_SHEET: usize = 65536;
 
-// Bytes of a fault's line, and of the header.
+// Bytes of a fault's line, of the header, and of an unreached block's line.
 pub const LONGEST_FAULT_LINE: usize = 32;
 
 pub const LONGEST_HEADER: usize = 16;
 
-// The report: a line for each step, and the header.
-pub const REPORT_SIZE: usize = MAX_STEPS * LONGEST_FAULT_LINE + LONGEST_HEADER;
+pub const LONGEST_UNREACHED_LINE: usize = 5;
+
+// The report: a fault's line for each step, the header, and a line for each block.
+pub const REPORT_SIZE: usize = MAX_STEPS * LONGEST_FAULT_LINE
+    + LONGEST_HEADER
+    + MAX_BLOCKS * LONGEST_UNREACHED_LINE;
 
 // The seal's line, and a report with room for it.
 pub const SEAL_SIZE: usize = 11;

@@ -10,7 +10,7 @@ use lib.ListN.{length, drop, replicate}
 use Rattle.paper.specs.Text.{Bytes, digits}
 use Rattle.paper.specs.Limits.{report-size, words-size, queue-size}
 use Rattle.paper.specs.Refusals.{Reading, loaded, refused, read}
-use Rattle.paper.specs.Report.{Line, behind-tabs, faults, report-text}
+use Rattle.paper.specs.Report.{Line, Entry, behind-tabs, entries, faults-in, report-text}
 use Rattle.paper.specs.declared.Rule.{Rule}
 use Rattle.paper.specs.declared.Refusal.{Refusal}
 use Rattle.paper.specs.declared.Answer.{Answer}
@@ -23,13 +23,16 @@ pub data Said : Type 0 where
   turned-away : Refusal → Said
 
 -- accepted where there is no fault, else faulty
-unfoldable pub said-of : Rule → List Line → Said
-said-of rule [] = accepted (report-text rule [])
-said-of rule (l ∷ ls) = faulty (report-text rule (l ∷ ls))
+unfoldable pub said-by : List Line → Bytes → Said
+said-by [] text = accepted text
+said-by (l ∷ ls) text = faulty text
+
+unfoldable pub said-of : Rule → List Entry → Said
+said-of rule es = said-by (faults-in es) (report-text rule es)
 
 unfoldable pub said-after : Rule → Reading → Said
 said-after rule (refused refusal) = turned-away refusal
-said-after rule (loaded S) = said-of rule (faults rule S)
+said-after rule (loaded S) = said-of rule (entries rule S)
 
 -- the answer to a sheet where the lent buffers are large enough
 unfoldable pub answer : Rule → Bytes → Said
@@ -50,7 +53,7 @@ pub record Lent : Type 0 where
   pub words : List ℕ
   pub queue : List ℕ
 
--- 1: "report shorter than 32,784 bytes, or a scratch buffer shorter than its published size"; `size` is the report's
+-- 1: the report shorter than its size, "or a scratch buffer shorter than its published size"; `size` is the report's
 unfoldable pub too-short : (size : ℕ) → Lent → Bool
 too-short size lent = ltb (length (lent .report)) size || (ltb (length (lent .words)) words-size || ltb (length (lent .queue)) queue-size)
 

@@ -1,5 +1,6 @@
 -- Document 02, A1: "compares two reports from two build machines". Is each well formed: "header, then E lines of document 01's shapes,
--- limits untested, as many as it counts"; "the first line where they part"; what is handed back "from that line on".
+-- limits untested, as many as it counts"; "the first line where they part"; what is handed back "from that line on". A5 adds the line
+-- `N block`, which the header does not count.
 use mathlib.Core.Bool.{Bool, true, false, cond, _&&_, _||_, Bool·beq}
 use mathlib.Core.List.{List, [], _∷_}
 use mathlib.Core.Option.{Option, none, some}
@@ -8,7 +9,7 @@ use lib.Dec.{eqb, ltb}
 use lib.ListN.{length, drop}
 use Rattle.paper.specs.Text.{Bytes, line-feed, parts, fields, number-of, digits, letter-r, name-of}
 use Rattle.paper.specs.Refusals.{_>>=_, next, ended, any, empty}
-use Rattle.paper.specs.Report.{letter-s, nothing, letter-E, letter-R, rule-text}
+use Rattle.paper.specs.Report.{letter-s, nothing, letter-E, letter-N, letter-R, rule-text}
 use Rattle.paper.specs.declared.Rule.the-variants.{Old, House}
 use Rattle.paper.specs.declared.Compared.{Compared}
 use Rattle.paper.specs.declared.Compared.the-variants.{Equal, Parts, Malformed}
@@ -51,9 +52,9 @@ unfoldable pub fault-shape : ℕ → Shape → Shape → Shape → List Shape
 fault-shape kind place expected actual =
     same-text (letter-E ∷ []) ∷ a-number ∷ a-number ∷ a-number ∷ same-text (digits kind) ∷ place ∷ expected ∷ actual ∷ []
 
--- "Kinds and their fields": every line that may stand behind the header
-unfoldable pub line-shapes : List (List Shape)
-line-shapes =
+-- "Kinds and their fields": every line of a fault
+unfoldable pub fault-shapes : List (List Shape)
+fault-shapes =
     fault-shape 1 (same-text nothing) a-name (same-text nothing)
     ∷ fault-shape 2 (lettered letter-r) (same-text nothing) (same-text nothing)
     ∷ fault-shape 3 (lettered letter-r) a-name a-name
@@ -63,8 +64,12 @@ line-shapes =
     ∷ fault-shape 7 (lettered letter-s) (same-text nothing) (same-text nothing)
     ∷ []
 
-unfoldable pub well-shaped : Bytes → Bool
-well-shaped line = any (λ shapes. fits shapes (fields line)) line-shapes
+unfoldable pub fault-shaped : Bytes → Bool
+fault-shaped line = any (λ shapes. fits shapes (fields line)) fault-shapes
+
+-- `N block`
+unfoldable pub unreached-shaped : Bytes → Bool
+unreached-shaped line = fits (same-text (letter-N ∷ []) ∷ a-number ∷ []) (fields line)
 
 -- the fields behind one of a shape
 unfoldable pub past : Shape → List Bytes → Option (List Bytes)
@@ -86,18 +91,19 @@ count-of fs = do
 unfoldable pub pieces : Bytes → List Bytes
 pieces text = parts line-feed ([] ∷ []) text
 
--- of the lines from one on, behind a header that counts so many, the first bad one; 0 where none is. A line that no LF closes is bad,
--- and "a wrong count is line 1", where every line has its shape
-unfoldable pub bad-from : (count line : ℕ) → List Bytes → ℕ
-bad-from count line [] = line
-bad-from count line (piece ∷ later) =
+-- of the lines from one on, behind a header that counts so many and so many faults before, the first bad one; 0 where none is. A line
+-- that no LF closes is bad, and "a wrong count is line 1", where every line has its shape
+unfoldable pub bad-from : (count faults line : ℕ) → List Bytes → ℕ
+bad-from count faults line [] = line
+bad-from count faults line (piece ∷ later) =
     cond (empty later)
-    (cond (empty piece) (cond (eqb (count + 2) line) 0 1) line)
-    (cond (well-shaped piece) (bad-from count (suc line) later) line)
+    (cond (empty piece) (cond (eqb count faults) 0 1) line)
+    (cond (fault-shaped piece) (bad-from count (suc faults) (suc line) later)
+    (cond (unreached-shaped piece) (bad-from count faults (suc line) later) line))
 
 unfoldable pub bad-behind : Option ℕ → List Bytes → ℕ
 bad-behind none later = 1
-bad-behind (some count) later = bad-from count 2 later
+bad-behind (some count) later = bad-from count 0 2 later
 
 unfoldable pub bad-first : List Bytes → ℕ
 bad-first [] = 1

@@ -33,15 +33,19 @@ max-steps = 1024
 abbrev pub max-sheet : ℕ
 max-sheet = 65536
 
--- "The longest line is 32 bytes: 1,024 x 32 + 16 = 32,784.": a fault's line for each step, and 16 bytes for the header
+-- "The longest line is 32 bytes": a fault's line for each step, 16 bytes for the header, and, document 02, A5, an `N` line for each
+-- block: "The report buffer must now hold 33,104 bytes"
 abbrev pub longest-fault-line : ℕ
 longest-fault-line = 32
 
 abbrev pub longest-header : ℕ
 longest-header = 16
 
+abbrev pub longest-unreached-line : ℕ
+longest-unreached-line = 5
+
 abbrev pub report-size : ℕ
-report-size = max-steps * longest-fault-line + longest-header
+report-size = max-steps * longest-fault-line + longest-header + max-blocks * longest-unreached-line
 
 -- document 02, A3: "The sealed form needs 11 bytes more of report buffer"
 abbrev pub seal-size : ℕ

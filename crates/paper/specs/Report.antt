@@ -1,5 +1,6 @@
 -- Document 01, "The report": header `R rule count`, then one line a fault, by block, then place of the step in its block:
--- `E block place inst kind where expected actual`, with `-` for nothing. "If an `O` has a `-`, no analysis runs."
+-- `E block place inst kind where expected actual`, with `-` for nothing. "If an `O` has a `-`, no analysis runs." Document 02, A5: an
+-- unreached block has a line `N block` in place of its faults.
 use mathlib.Core.List.{List, [], _∷_, _++_, map}
 use mathlib.Core.Option.{Option, none, some}
 use Prim.Native.Nat.{ℕ, suc, zero}
@@ -8,7 +9,7 @@ use lib.ListN.{length}
 use Rattle.paper.specs.Text.{Bytes, tab, line-feed, hyphen, digits, Name, letter-r, name-text}
 use Rattle.paper.specs.Sheet.{Operand, Step, spill, reload, move, change, operation, safepoint, Sheet, steps-of, reference-typed}
 use Rattle.paper.specs.Steps.{State, Fault, missing-allocation-for-reg, unknown-value-in-reg, incorrect-value-in-reg, unknown-value-in-slot, incorrect-value-in-slot, stack-map-specifies-non-ref-slot, stack-map-specifies-undefined-slot, check, effect}
-use Rattle.paper.specs.Runs.{checked-from}
+use Rattle.paper.specs.Runs.{analysis, checked-from}
 use Rattle.paper.specs.declared.Rule.{Rule}
 use Rattle.paper.specs.declared.Rule.the-variants.{Old, House}
 
@@ -41,14 +42,29 @@ faults-from rule S b place (x ∷ xs) s = line-of b place (inst-of x) (check x s
 unfoldable pub block-faults : Rule → Sheet → ℕ → List Line
 block-faults rule S b = faults-from rule S b 0 (steps-of S b) (checked-from rule S b)
 
+-- what a line of the report says: a fault, or that no walk comes to a block
+pub data Entry : Type 0 where
+  fault-entry : Line → Entry
+  unreached-entry : (block : ℕ) → Entry
+
+-- Document 02, A5: "Under the house rule an unreached block is not checked; the report has a line `N block` where its faults would
+-- stand." It is unreached where the run's table has no state for it; "The old rule is unchanged": there every block has one.
+unfoldable pub entries-at : Rule → Sheet → ℕ → Option State → List Entry
+entries-at rule S b none = unreached-entry b ∷ []
+entries-at rule S b (some s) = map fault-entry (block-faults rule S b)
+
+-- the lines of block b
+unfoldable pub block-entries : Rule → Sheet → ℕ → List Entry
+block-entries rule S b = entries-at rule S b ((analysis rule S) .table b)
+
 -- of each of the n blocks from b on, what f gives
 unfoldable pub by-block : {A : Type 0} → (ℕ → List A) → ℕ → ℕ → List A
 by-block f b zero = []
 by-block f b (suc n) = f b ++ by-block f (suc b) n
 
--- `find_errors`: every block's faults
-unfoldable pub find-errors : Rule → Sheet → List Line
-find-errors rule S = by-block (block-faults rule S) 0 (S .blocks)
+-- `find_errors`: every block's lines
+unfoldable pub find-errors : Rule → Sheet → List Entry
+find-errors rule S = by-block (block-entries rule S) 0 (S .blocks)
 
 -- the first list that has something in it
 unfoldable pub first-list : {A : Type 0} → List A → List A → List A
@@ -89,9 +105,18 @@ missing-blocks S b (suc n) = first-list (missing-from b 0 (steps-of S b)) (missi
 unfoldable pub missing-allocations : Sheet → List Line
 missing-allocations S = missing-blocks S 0 (S .blocks)
 
--- the report's faults: "If an `O` has a `-`, no analysis runs."
+-- the report's lines: "If an `O` has a `-`, no analysis runs.", and "a report that stops at one has no `N` lines"
+unfoldable pub entries : Rule → Sheet → List Entry
+entries rule S = first-list (map fault-entry (missing-allocations S)) (find-errors rule S)
+
+-- the faults among them
+unfoldable pub faults-in : List Entry → List Line
+faults-in [] = []
+faults-in (fault-entry l ∷ es) = l ∷ faults-in es
+faults-in (unreached-entry b ∷ es) = faults-in es
+
 unfoldable pub faults : Rule → Sheet → List Line
-faults rule S = first-list (missing-allocations S) (find-errors rule S)
+faults rule S = faults-in (entries rule S)
 
 -- "Kinds and their fields, after `CheckerError`"
 unfoldable pub kind-of : Fault → ℕ
@@ -136,6 +161,9 @@ behind-tabs (f ∷ fs) = tab ∷ (f ++ behind-tabs fs)
 abbrev pub letter-E : ℕ
 letter-E = code "E"
 
+abbrev pub letter-N : ℕ
+letter-N = code "N"
+
 abbrev pub letter-R : ℕ
 letter-R = code "R"
 
@@ -143,9 +171,17 @@ letter-R = code "R"
 unfoldable pub line-text : Line → Bytes
 line-text l = letter-E ∷ behind-tabs (digits (l .block) ∷ digits (l .place) ∷ digits (l .inst) ∷ digits (kind-of (l .fault)) ∷ fault-fields (l .fault))
 
-unfoldable pub lines-text : List Line → Bytes
+-- `N block`
+unfoldable pub unreached-text : ℕ → Bytes
+unreached-text block = letter-N ∷ behind-tabs (digits block ∷ [])
+
+unfoldable pub entry-text : Entry → Bytes
+entry-text (fault-entry l) = line-text l
+entry-text (unreached-entry block) = unreached-text block
+
+unfoldable pub lines-text : List Entry → Bytes
 lines-text [] = []
-lines-text (l ∷ ls) = line-text l ++ lines-text ls
+lines-text (e ∷ es) = entry-text e ++ lines-text es
 
 -- "rule being `old` or `house`"
 unfoldable pub rule-text : Rule → Bytes
@@ -156,6 +192,6 @@ rule-text House = code "h" ∷ code "o" ∷ code "u" ∷ code "s" ∷ code "e" �
 unfoldable pub header-text : Rule → ℕ → Bytes
 header-text rule count = letter-R ∷ behind-tabs (rule-text rule ∷ digits count ∷ [])
 
--- the count is the number of `E` lines
-unfoldable pub report-text : Rule → List Line → Bytes
-report-text rule ls = header-text rule (length ls) ++ lines-text ls
+-- the count is the number of `E` lines: "the header still counts faults only"
+unfoldable pub report-text : Rule → List Entry → Bytes
+report-text rule es = header-text rule (length (faults-in es)) ++ lines-text es

@@ -126,8 +126,8 @@ pub record EndsAfter (rule : Rule) (S : Sheet) (visits : ℕ) : Type 0 where
 unfoldable pub analysis : Rule → Sheet → Run State
 analysis rule S = run (flow rule S) (visit-bound rule S) (begin rule S)
 
--- the state that a block is checked from: "Unreached blocks keep an all Absent (house: all Unknown) state, are not run in the
--- analysis, yet are checked."
+-- the state that a block begins with: "Unreached blocks keep an all Absent (house: all Unknown) state, are not run in the analysis".
+-- Document 02, A5: "Under the house rule an unreached block is not checked"
 unfoldable pub entered : Rule → Sheet → Option State → State
 entered rule S none = unreached-state rule S
 entered rule S (some s) = s

@@ -5,11 +5,11 @@ use mathlib.Core.Path.{_≡_}
 use mathlib.Core.Bool.{Bool}
 use mathlib.Core.List.{List, [], _∷_, _++_}
 use mathlib.Core.Option.{none}
-use Prim.Native.Nat.{ℕ, _<_}
+use Prim.Native.Nat.{ℕ}
 use Rattle.paper.specs.Text.{Name}
 use Rattle.paper.specs.Sheet.{Step, spill, reload, move, change, operation, safepoint, Sheet, steps-of, reference-typed}
 use Rattle.paper.specs.Cells.{named}
-use Rattle.paper.specs.Steps.{State, slot, get, check, effect, entry-state, unreached-state}
+use Rattle.paper.specs.Steps.{State, slot, get, check, effect, entry-state}
 use Rattle.paper.specs.Runs.{Flow, flow}
 use Rattle.paper.specs.Report.{missing-allocations}
 use Rattle.paper.specs.declared.Rule.the-variants.{House}
@@ -66,10 +66,9 @@ unfoldable pub Alike : (Name → Bool) → List Step → State → State → Typ
 Alike ref [] s t = Unit {0}
 Alike ref (x ∷ xs) s t = SameNames x s t × Alike ref xs (effect House ref x s) (effect House ref x t)
 
--- "House acceptance holds exactly when no allocation is missing, every check passes on every walk and in every unreached block
--- alone, and no two walks come to the same `P` with different names in a slot it lists (that is kind 7)."
+-- "House acceptance holds exactly when no allocation is missing, every check passes on every walk .. and no two walks come to the same
+-- `P` with different names in a slot it lists (that is kind 7)." Document 02, A5: "it then speaks of missing allocations and walks only"
 pub record Acceptance (S : Sheet) : Type 0 where
   pub allocated : missing-allocations S ≡ []
   pub passes : (b : ℕ) (w : HouseWalk S b) → Passes (reference-typed S) (trail S w ++ steps-of S b) (entry-state House S)
-  pub alone : (b : ℕ) → b < S .blocks → ¬ HouseWalk S b → Passes (reference-typed S) (steps-of S b) (unreached-state House S)
   pub alike : (b : ℕ) (w v : HouseWalk S b) → Alike (reference-typed S) (steps-of S b) (along (flow House S) w) (along (flow House S) v)

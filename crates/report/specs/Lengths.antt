@@ -7,9 +7,9 @@ use borrow.Author.Tests.{lt-ltb, le-ltb}
 use lib.ListN.{length, length-append}
 use Rattle.lists.specs.Split.{by-order}
 use Rattle.fields.specs.Spelling.{length-one, length-two, length-three, length-four, length-digits}
-use Rattle.paper.specs.Limits.{max-regs, max-slots, longest-fault-line, longest-header}
+use Rattle.paper.specs.Limits.{max-regs, max-slots, max-blocks, longest-fault-line, longest-header, longest-unreached-line}
 use Rattle.paper.specs.Text.{Bytes, digits, name-text}
-use Rattle.paper.specs.Report.{slot-text, behind-tabs, rule-text, header-text}
+use Rattle.paper.specs.Report.{slot-text, behind-tabs, unreached-text, rule-text, header-text}
 use Rattle.paper.specs.declared.Rule.{Rule}
 use Rattle.paper.specs.declared.Rule.the-variants.{Old, House}
 use Rattle.cells.specs.Packed.{name-of-word}
@@ -89,3 +89,11 @@ line-short p f within s =
       length-one (f .kind) (s .kind),
       s,
     )
+
+-- "an `N` line": five bytes for a block of two digits
+pub unreached-length : (block : ℕ) → length (unreached-text block) ≡ 3 + length (digits block)
+unfolding unreached-text
+unreached-length block = omega (arith, behind (digits block) [], behind-none)
+
+pub unreached-short : (block : ℕ) → block < max-blocks → length (unreached-text block) ≤ longest-unreached-line
+unreached-short block h = omega (arith, unreached-length block, length-two block (omega arith))

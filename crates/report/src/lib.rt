@@ -1,11 +1,11 @@
-// Writing a report: its letters and fields, an `E` line, the header, each at a place of a lent buffer.
+// Writing a report: its letters and fields, an `E` line, an `N` line, the header, each at a place of a lent buffer.
 ghost use mathlib.Core.List.{_∷_};
 ghost use Prim.Native.Nat.{_+_, _≤_, _<_};
 ghost use lib.ListN.{length};
 ghost use Rattle.lists.specs.Sets.{Wrote};
 ghost use Rattle.paper.specs.Text.{tab, digits, name-text};
-ghost use Rattle.paper.specs.Limits.{report-size};
-ghost use Rattle.paper.specs.Report.{behind-tabs, rule-text, header-text};
+ghost use Rattle.paper.specs.Limits.{max-blocks, report-size};
+ghost use Rattle.paper.specs.Report.{behind-tabs, unreached-text, rule-text, header-text};
 ghost use Rattle.cells.specs.Packed.{name-of-word};
 ghost use Rattle.report.specs.Lines.{field-text, field-texts, fields-line, PositionWithin};
 use cells::MARK;
@@ -90,6 +90,16 @@ pub fn write_line(report: &mut [u8], at: usize, position: Position, fault: Fault
     write_fields(report, d, fault)
 }
 
+// An `N` line.
+pub fn write_unreached(report: &mut [u8], at: usize, block: usize) -> usize
+    requires { ⌜ (block < max-blocks) × (at + length (unreached-text block) ≤ length (now report)) ⌝ }
+    ensures { λ r. ⌜ Wrote (now (report .entry)) at (unreached-text block) (now (report .exit)) r ⌝ }
+{
+    let a = fields::write_byte(report, at, b'N');
+    let b = fields::write_before_number(report, a, b'\t', block as u32);
+    fields::write_byte(report, b, b'\n')
+}
+
 // `old` or `house`.
 fn write_rule(report: &mut [u8], at: usize, rule: Rule) -> usize
     requires { ⌜ at + length (rule-text rule) ≤ length (now report) ⌝ }
@@ -111,7 +121,7 @@ fn write_rule(report: &mut [u8], at: usize, rule: Rule) -> usize
     }
 }
 
-// The header: the rule, and the count of the lines that follow.
+// The header: the rule, and the count of the faults that follow.
 pub fn write_header(report: &mut [u8], at: usize, rule: Rule, count: usize) -> usize
     requires { ⌜ (count ≤ report-size) × (at + length (header-text rule count) ≤ length (now report)) ⌝ }
     ensures { λ r. ⌜ Wrote (now (report .entry)) at (header-text rule count) (now (report .exit)) r ⌝ }

@@ -15,7 +15,7 @@ use Rattle.lists.specs.Split.{by-order, and-left, and-right}
 use Rattle.paper.specs.Text.{Bytes, tab, line-feed, is-digit}
 use Rattle.paper.specs.Limits.{seal-size}
 use Rattle.paper.specs.Refusals.{empty}
-use Rattle.paper.specs.Report.{Line, letter-E, letter-R, behind-tabs, line-text, lines-text, header-text, report-text}
+use Rattle.paper.specs.Report.{Entry, fault-entry, unreached-entry, letter-E, letter-N, letter-R, behind-tabs, line-text, unreached-text, entry-text, lines-text, header-text, report-text}
 use Rattle.paper.specs.Comparison.{same-text}
 use Rattle.paper.specs.Seal.{crc-of, hex-digit, hex-digits, seal-line, sealed, is-hex, all-hex, seal-shaped, closed, before-seal, last-line, has-seal, seal-of}
 use Rattle.paper.specs.declared.Rule.{Rule}
@@ -210,11 +210,15 @@ unfolding behind-tabs
 fields-end [] = record { front = []; whole = refl }
 fields-end (f ∷ fs) = ends-behind (tab ∷ f) (fields-end fs)
 
-lines-end : (ls : List Line) {text : Bytes} → Ends text → Ends (text ++ lines-text ls)
-unfolding lines-text line-text
+entry-end : (e : Entry) → Ends (entry-text e)
+unfolding entry-text line-text unreached-text
+entry-end (fault-entry l) = ends-behind (letter-E ∷ []) (fields-end _)
+entry-end (unreached-entry b) = ends-behind (letter-N ∷ []) (fields-end _)
+
+lines-end : (es : List Entry) {text : Bytes} → Ends text → Ends (text ++ lines-text es)
+unfolding lines-text
 lines-end [] {text} e = subst Ends (sym (append-nil text)) e
-lines-end (l ∷ ls) {text} e =
-    subst Ends (append-assoc text (line-text l) (lines-text ls)) (lines-end ls (ends-behind text (ends-behind (letter-E ∷ []) (fields-end _))))
+lines-end (x ∷ es) {text} e = subst Ends (append-assoc text (entry-text x) (lines-text es)) (lines-end es (ends-behind text (entry-end x)))
 
 ends-closed : {text : Bytes} → Ends text → closed text ≡ true
 unfolding closed
@@ -225,10 +229,10 @@ ends-closed {text} e =
     let byte : getD text (length text - 1) 0 ≡ line-feed = rw last there in
     rw byte (or-true (empty text))
 
-pub report-closed : (rule : Rule) (ls : List Line) → closed (report-text rule ls) ≡ true
+pub report-closed : (rule : Rule) (es : List Entry) → closed (report-text rule es) ≡ true
 unfolding report-text header-text
-report-closed rule ls = ends-closed (lines-end ls (ends-behind (letter-R ∷ []) (fields-end _)))
+report-closed rule es = ends-closed (lines-end es (ends-behind (letter-R ∷ []) (fields-end _)))
 
 -- so what is sealed of a report is good
-pub report-good : (rule : Rule) (ls : List Line) → seal-of (sealed (report-text rule ls)) ≡ Good
-report-good rule ls = sealed-good (report-text rule ls) (report-closed rule ls)
+pub report-good : (rule : Rule) (es : List Entry) → seal-of (sealed (report-text rule es)) ≡ Good
+report-good rule es = sealed-good (report-text rule es) (report-closed rule es)

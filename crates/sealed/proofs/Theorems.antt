@@ -11,8 +11,8 @@ use lib.Seq.{take-at}
 use Rattle.paper.specs.Text.{Bytes}
 use Rattle.paper.specs.Limits.{sealed-size}
 use Rattle.paper.specs.Refusals.{Reading, loaded, refused, read}
-use Rattle.paper.specs.Report.{Line, faults, report-text}
-use Rattle.paper.specs.Answer.{Said, accepted, faulty, turned-away, said-of, said-after, answer, Lent, too-short, laid, answer-of, report-of, Outcome, outcome-of}
+use Rattle.paper.specs.Report.{Line, Entry, entries, faults-in, report-text}
+use Rattle.paper.specs.Answer.{Said, accepted, faulty, turned-away, said-by, said-of, said-after, answer, Lent, too-short, laid, answer-of, report-of, Outcome, outcome-of}
 use Rattle.paper.specs.Seal.{sealed, seal-of, sealed-said, sealed-outcome}
 use Rattle.paper.specs.declared.Rule.{Rule}
 use Rattle.paper.specs.declared.Rule.the-variants.{House}
@@ -35,7 +35,7 @@ export-one-outcome p q = (p .verdict-is ∙ sym (q .verdict-is), p .lent-is ∙ 
 
 -- the text of an answer is that of a report
 abbrev IsReport : Rule → Bytes → Type 0
-IsReport rule text = (ls : List Line) × (text ≡ report-text rule ls)
+IsReport rule text = (es : List Entry) × (text ≡ report-text rule es)
 
 text-of : Said → Bytes
 text-of (accepted text) = text
@@ -44,20 +44,20 @@ text-of (turned-away refusal) = []
 
 said-report : (rule : Rule) (sheet : Bytes) (said : Said) → answer rule sheet ≡ said → ((refusal : Refusal) → said ≡ turned-away refusal → ⊥)
     → IsReport rule (text-of said)
-unfolding answer said-after said-of text-of
+unfolding answer said-after said-of said-by text-of
 said-report rule sheet said e given = at (read sheet) e
   where
-    lines : (ls : List Line) → said-of rule ls ≡ said → IsReport rule (text-of said)
-    lines [] f = ([], ap text-of (sym f))
-    lines (l ∷ ls) f = (l ∷ ls, ap text-of (sym f))
+    text-by : (ls : List Line) (text : Bytes) → text-of (said-by ls text) ≡ text
+    text-by [] text = refl
+    text-by (l ∷ ls) text = refl
 
     at : (o : Reading) → said-after rule o ≡ said → IsReport rule (text-of said)
-    at (loaded S) f = lines (faults rule S) f
+    at (loaded S) f = let es = entries rule S in (es, ap text-of (sym f) ∙ text-by (faults-in es) (report-text rule es))
     at (refused refusal) f = absurd (given refusal (sym f))
 
 -- the answer and the report of a call with a report
 pub record Told (rule : Rule) (before : Lent) (n : ℕ) (report : List ℕ) : Type 0 where
-  pub lines : List Line
+  pub lines : List Entry
   pub length-is : n ≡ length (sealed (report-text rule lines))
   pub report-is : report ≡ laid (sealed (report-text rule lines)) (before .report)
 
@@ -154,8 +154,7 @@ pub sealed-exactly : {sheet : Bytes} {before after : Lent} {r : Answer} → Chec
     → ((n : ℕ) × (r ≡ Accepted n)) ↔ Acceptable sheet
 unfolding sealed-outcome outcome-of answer-of sealed-said
 sealed-exactly {sheet} {before} {after} {r} c long =
-    let size = length (sealed (report-text House [])) in
     let said = ap (λ (o : Outcome). o .answer) (c .whole) in (
       λ p. acceptable (sealed-accepted (subst (CheckedSealed House sheet before after) (p .1) c)),
-      λ a. (size, said ∙ rw (long, bytes-acceptance sheet (a .sheet) (a .is-read) .1 (a .sentence))),
+      λ a. (length (sealed (report-text House (entries House (a .sheet)))), said ∙ rw (long, bytes-acceptance sheet (a .sheet) (a .is-read) .1 (a .sentence))),
     )

@@ -20,7 +20,7 @@ use Rattle.states.specs.declared.Part.{Part}
 use Rattle.states.specs.declared.Part.the-variants.{Answer, States}
 
 -- how long the text can get: the longest cell is `v255*`, the longest head `D`, two digits and a mark with their tabs. The
--- report's 32,784 bytes have room for all.
+-- report's size has room for all.
 abbrev pub longest-cell : ℕ
 longest-cell = 5
 

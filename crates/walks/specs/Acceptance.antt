@@ -12,8 +12,8 @@ use lib.ListN.{getD, replicate}
 use Rattle.paper.specs.Text.{Name, real}
 use Rattle.paper.specs.Sheet.{Step, change, Sheet, steps-of, reference-typed}
 use Rattle.paper.specs.Cells.{Cell, absent, unknown, named}
-use Rattle.paper.specs.Steps.{State, counts-of, at, nowhere, register, cell-at, get, row-of, unfilled, unfilled-rows, entry-rows, entry-state, unreached-state, effect, effects}
-use Rattle.paper.specs.Runs.{flow, analysis, entered, checked-from}
+use Rattle.paper.specs.Steps.{State, counts-of, at, nowhere, register, cell-at, get, row-of, unfilled, unfilled-rows, entry-rows, entry-state, effect, effects}
+use Rattle.paper.specs.Runs.{flow, analysis}
 use Rattle.paper.specs.Report.{missing-allocations, faults}
 use Rattle.paper.specs.Walks.{In, start, then, along, HouseWalk, trail, Passes, Alike, Acceptance}
 use Rattle.paper.specs.Programs.{World, Original, Allocated, EqualReads}
@@ -21,7 +21,7 @@ use Rattle.paper.specs.declared.Rule.the-variants.{House}
 use Rattle.walks.specs.Choices.{some-inj, in-append, in-nil}
 use Rattle.walks.specs.Flow.{Meets, one, two}
 use Rattle.walks.specs.Bounds.{Closed}
-use Rattle.walks.specs.House.{house-good, house-meet-over-walks, house-reached, house-unreached}
+use Rattle.walks.specs.House.{house-good, house-meet-over-walks, house-unreached}
 use Rattle.walks.specs.Holding.{absent-named, unknown-named}
 use Rattle.walks.specs.Fits.{shape}
 use Rattle.walks.specs.Honest.{Typed, SameType, walk-proper, meets-proper}
@@ -92,21 +92,13 @@ module _ (S : Sheet) (C : Closed S) where
   meets-of (one w e) = single w e
   meets-of (two p q e) = joined (meets-of p) (meets-of q) e
 
-  -- the checks of a block, from its entry in the table
-  abbrev Starts : ℕ → Option State → Type 0
-  Starts b t = Passes (reference-typed S) (steps-of S b) (entered House S t)
-
   walks-pass : Acceptance S → BlocksPass S
-  unfolding checked-from entered
-  walks-pass E b l = at ((analysis House S) .table b) refl
-    where
-      at : (t : Option State) → (analysis House S) .table b ≡ t → Starts b ((analysis House S) .table b)
-      at none e = subst (Starts b) (sym e) (E .alone b l (house-unreached S C b e))
-      at (some s) e =
-          subst (Starts b) (sym e)
-          (passes-meet (reference-typed S) (steps-of S b) (λ (w : HouseWalk S b). along (flow House S) w) (meets-of (house-good S .met b s e))
-          (λ w. subst (Passes (reference-typed S) (steps-of S b)) (sym (along-trail S w)) (passes-after (reference-typed S) (trail S w) (steps-of S b) (entry-state House S) (E .passes b w)))
-          (E .alike b))
+  walks-pass E b l s e =
+      passes-meet (reference-typed S) (steps-of S b) (λ (w : HouseWalk S b). along (flow House S) w) (meets-of (house-good S .met b s e))
+      (λ w.
+      subst (Passes (reference-typed S) (steps-of S b)) (sym (along-trail S w))
+      (passes-after (reference-typed S) (trail S w) (steps-of S b) (entry-state House S) (E .passes b w)))
+      (E .alike b)
 
   module _ (T : Typed S) (ok : BlocksPass S) where
     -- the state in the table is below the walk's, and the block passes from it
@@ -117,12 +109,12 @@ module _ (S : Sheet) (C : Closed S) where
       pass : Passes (reference-typed S) (steps-of S b) state
 
     checked : {b : ℕ} (w : HouseWalk S b) → Checked w
-    unfolding flow checked-from entered
+    unfolding flow
     checked {b} w = at ((analysis House S) .table b) refl
       where
         at : (t : Option State) → (analysis House S) .table b ≡ t → Checked w
         at none e = absurd (house-unreached S C b e w)
-        at (some s) e = record { state = s; holds = e; under = house-meet-over-walks S C b s e .lower w; pass = subst (Starts b) e (ok b (walk-in w)) }
+        at (some s) e = record { state = s; holds = e; under = house-meet-over-walks S C b s e .lower w; pass = ok b (walk-in w) s e }
 
     block-passes : {b : ℕ} (w : HouseWalk S b) → Passes (reference-typed S) (steps-of S b) (effects House (reference-typed S) (trail S w) (entry-state House S))
     block-passes {b} w =
@@ -137,18 +129,12 @@ module _ (S : Sheet) (C : Closed S) where
     trail-passes (then {b} w m) = passes-append (reference-typed S) (trail S w) (steps-of S b) (entry-state House S) (trail-passes w) (block-passes w)
 
     pass-walks : missing-allocations S ≡ [] → Acceptance S
-    unfolding checked-from entered
     pass-walks none-missing = record {
       allocated = none-missing;
       passes = λ b w. passes-append (reference-typed S) (trail S w) (steps-of S b) (entry-state House S) (trail-passes w) (block-passes w);
-      alone = λ b l n. lone b l n ((analysis House S) .table b) refl;
       alike = alike;
     }
       where
-        lone : (b : ℕ) → b < S .blocks → ¬ HouseWalk S b → (t : Option State) → (analysis House S) .table b ≡ t → Passes (reference-typed S) (steps-of S b) (unreached-state House S)
-        lone b l n none e = subst (Starts b) e (ok b l)
-        lone b l n (some s) e = absurd (n (house-reached S C b s e))
-
         alike : (b : ℕ) (w v : HouseWalk S b) → Alike (reference-typed S) (steps-of S b) (along (flow House S) w) (along (flow House S) v)
         alike b w v =
             let c = checked w in

@@ -9,14 +9,14 @@ use Rattle.paper.specs.Sheet.{Step, operation, Sheet, listed, reference-typed}
 use Rattle.paper.specs.Cells.{cell-same, meet-names, old-meet, house-meet, meet, copied, overwritten, house-changed, old-changed, collected}
 use Rattle.paper.specs.Steps.{get, put, location-of, row-of, counts-of, total, cell-count, unfilled, unfilled-rows, entry-rows, entry-state, unreached-state, first-of, check-use, check-uses, check-change, check-slot, check-slots, check, copy, everywhere, by-place, safepoint-row, old-define, house-define, old-effect, house-effect, effect, effects}
 use Rattle.paper.specs.Runs.{update, store, push-at, push, spread, visit-at, step-at, step, run, pointwise, meet-states, cons-same, list-same, state-same, flow, before, begin, visit-bound, analysis, entered, checked-from}
-use Rattle.paper.specs.Report.{Line, inst-of, line-of, faults-from, block-faults, by-block, find-errors, first-list, unallocated, missing-names, names-lines, missing-from, missing-blocks, missing-allocations, faults}
+use Rattle.paper.specs.Report.{Line, inst-of, line-of, faults-from, block-faults, entries-at, block-entries, by-block, find-errors, first-list, unallocated, missing-names, names-lines, missing-from, missing-blocks, missing-allocations, entries, faults-in, faults}
 use Rattle.paper.specs.Walks.{trail, Passes}
 use Rattle.paper.specs.Programs.{location-same, uses-of, write-name, write-cell, original-reads, allocated-reads, original-writes, allocated-writes, original-collects, allocated-collects, original-step, allocated-step, original-run, allocated-run}
 use Rattle.paper.specs.declared.Rule.{Rule}
 use Rattle.walks.specs.Order.{without, in-order}
 
 unfoldable pub computed : Rule → Sheet → List Line
-unfolding ℕ-discrete name-same listed reference-typed cell-same meet-names old-meet house-meet meet copied overwritten house-changed old-changed collected get put location-of row-of counts-of total cell-count unfilled unfilled-rows entry-rows entry-state unreached-state first-of check-use check-uses check-change check-slot check-slots check copy everywhere by-place safepoint-row old-define house-define old-effect house-effect effect effects update store push-at push spread visit-at step-at step run pointwise meet-states cons-same list-same state-same flow before begin visit-bound analysis entered checked-from inst-of line-of faults-from block-faults by-block find-errors first-list unallocated missing-names names-lines missing-from missing-blocks missing-allocations faults trail Passes location-same uses-of write-name write-cell original-reads allocated-reads original-writes allocated-writes original-collects allocated-collects original-step allocated-step original-run allocated-run without in-order
+unfolding ℕ-discrete name-same listed reference-typed cell-same meet-names old-meet house-meet meet copied overwritten house-changed old-changed collected get put location-of row-of counts-of total cell-count unfilled unfilled-rows entry-rows entry-state unreached-state first-of check-use check-uses check-change check-slot check-slots check copy everywhere by-place safepoint-row old-define house-define old-effect house-effect effect effects update store push-at push spread visit-at step-at step run pointwise meet-states cons-same list-same state-same flow before begin visit-bound analysis entered checked-from inst-of line-of faults-from block-faults entries-at block-entries by-block find-errors first-list unallocated missing-names names-lines missing-from missing-blocks missing-allocations entries faults-in faults trail Passes location-same uses-of write-name write-cell original-reads allocated-reads original-writes allocated-writes original-collects allocated-collects original-step allocated-step original-run allocated-run without in-order
 computed rule S = faults rule S
 
 -- an operation that defines, or uses, one name in one register

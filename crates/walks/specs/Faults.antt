@@ -1,19 +1,19 @@
--- Every house fault is shown by a walk: a fault of kinds 2 to 6 in a reached block by one walk on which that step's check fails, a
--- fault of kind 7 by one walk or by two that bring different names to a slot that the safepoint lists.
+-- Every house fault is shown by a walk: a fault of kinds 2 to 6 by one walk on which that step's check fails, a fault of kind 7 by one
+-- walk or by two that bring different names to a slot that the safepoint lists.
 use mathlib.Core.Path.{_≡_, refl, sym, _∙_, ap, subst}
 use mathlib.Core.Logic.{_⊎_, inl, inr, ⊎-map}
 use mathlib.Core.Bool.{Bool, true, false, _||_}
 use mathlib.Core.List.{List, [], _∷_, _++_}
 use mathlib.Core.Option.{Option, none, some}
-use Prim.Native.Nat.{ℕ, suc, zero, _+_}
+use Prim.Native.Nat.{ℕ, suc, _+_}
 use native.Mathlib.Omega.{arith}
 use lib.ListN.{length}
 use Rattle.paper.specs.Text.{Name}
 use Rattle.paper.specs.Sheet.{Step, spill, reload, move, change, operation, safepoint, Sheet, steps-of, reference-typed}
 use Rattle.paper.specs.Cells.{Cell, absent, unknown, conflicted, named}
-use Rattle.paper.specs.Steps.{State, Location, slot, get, unreached-state, Fault, first-of, check-slot, check-slots, check, effect, effects}
-use Rattle.paper.specs.Runs.{meet-states, flow, analysis, entered, checked-from}
-use Rattle.paper.specs.Report.{Line, inst-of, line-of, faults-from, block-faults, by-block, find-errors, kind-of}
+use Rattle.paper.specs.Steps.{State, Location, slot, get, Fault, first-of, check-slot, check-slots, check, effect, effects}
+use Rattle.paper.specs.Runs.{meet-states, flow, analysis}
+use Rattle.paper.specs.Report.{Line, inst-of, line-of, faults-from, fault-entry, block-entries, find-errors, kind-of}
 use Rattle.paper.specs.Walks.{In, here, there, along, HouseWalk, SameNames}
 use Rattle.paper.specs.declared.Rule.the-variants.{House}
 use Rattle.lists.specs.Split.{or-left}
@@ -24,7 +24,8 @@ use Rattle.walks.specs.Checks.{slots-marked}
 use Rattle.walks.specs.Above.{meet-left, meet-right}
 use Rattle.walks.specs.Witness.{MeetOf, single, joined, Witness, one-fails, two-differ, witness, meet-of-effect}
 use Rattle.walks.specs.Bounds.{Closed}
-use Rattle.walks.specs.House.{house-good, house-unreached}
+use Rattle.walks.specs.House.{house-good}
+use Rattle.walks.specs.Entries.{reached-faults, unreached-faults, in-faults, in-block}
 use Rattle.walks.specs.Acceptance.{meets-of}
 
 -- a listed slot that holds an unmarked name
@@ -130,22 +131,13 @@ reported S b place (x ∷ xs) s l i = go (check x s) refl (in-append (line-of b 
         let r = rec i in
         record { block-is = r .block-is; earlier = x ∷ r .earlier; step = r .step; later = r .later; splits = ap (λ (l : List Step). x ∷ l) (r .splits); at-place = omega (arith, r .at-place); found = r .found }
 
-in-block : (f : ℕ → List Line) (l : Line) (n b : ℕ) → In l (by-block f b n) → (c : ℕ) × In l (f c)
-unfolding by-block
-in-block f l zero b i = absurd (in-nil i)
-in-block f l (suc n) b i = go (in-append (f b) (by-block f (suc b) n) i) (in-block f l n (suc b))
-  where
-    go : In l (f b) ⊎ In l (by-block f (suc b) n) → (In l (by-block f (suc b) n) → (c : ℕ) × In l (f c)) → (c : ℕ) × In l (f c)
-    go (inl j) rec = (b, j)
-    go (inr j) rec = rec j
-
 meet-of-effects : {I : Type 0} (ref : Name → Bool) (xs : List Step) (σ : I → State) {a : State} → MeetOf σ a → MeetOf (λ i. effects House ref xs (σ i)) (effects House ref xs a)
 unfolding effects
 meet-of-effects ref [] σ m = m
 meet-of-effects ref (x ∷ xs) σ m = meet-of-effects ref xs (λ i. effect House ref x (σ i)) (meet-of-effect ref x σ m)
 
 -- A reported fault: the step that stands at the line's place, with the block's steps before it; and the walks to the block that
--- show the fault there, or, where no walk comes, the fault that the block has alone.
+-- show the fault there.
 pub record Explained (S : Sheet) (l : Line) : Type 0 where
   pub earlier : List Step
   pub step : Step
@@ -153,41 +145,46 @@ pub record Explained (S : Sheet) (l : Line) : Type 0 where
   pub splits : steps-of S (l .block) ≡ earlier ++ (step ∷ later)
   pub at-place : length earlier ≡ l .place
   pub by-walks : Shown step (λ (w : HouseWalk S (l .block)). effects House (reference-typed S) earlier (along (flow House S) w)) (l .fault)
-      ⊎ ((¬ HouseWalk S (l .block)) × (check step (effects House (reference-typed S) earlier (unreached-state House S)) ≡ some (l .fault)))
 
 module _ (S : Sheet) (C : Closed S) (l : Line) where
-  From : ℕ → Type 0
-  From b = Reported S b 0 (steps-of S b) (checked-from House S b) l
+  -- block b has a state, and the line is of its steps from there
+  record From (b : ℕ) : Type 0 where
+    state : State
+    holds : (analysis House S) .table b ≡ some state
+    line : Reported S b 0 (steps-of S b) state l
 
   explain : From (l .block) → Explained S l
-  unfolding From checked-from entered
-  explain r = record {
-    earlier = r .earlier;
-    step = r .step;
-    later = r .later;
-    splits = r .splits;
-    at-place = omega (arith, r .at-place);
-    by-walks = at ((analysis House S) .table b) refl;
-  }
+  explain f =
+      let r = f .line in
+      let b = l .block in
+      record {
+        earlier = r .earlier;
+        step = r .step;
+        later = r .later;
+        splits = r .splits;
+        at-place = omega (arith, r .at-place);
+        by-walks =
+            shown (λ (w : HouseWalk S b). effects House (reference-typed S) (r .earlier) (along (flow House S) w)) (r .step)
+            (meet-of-effects (reference-typed S) (r .earlier) (λ (w : HouseWalk S b). along (flow House S) w)
+            (meets-of S C (house-good S .met b (f .state) (f .holds))))
+            (l .fault) (r .found);
+      }
+
+  -- an unreached block has no fault
+  from : (b : ℕ) → In (fault-entry l) (block-entries House S b) → From b
+  from b i = at ((analysis House S) .table b) refl
     where
-      b : ℕ
-      b = l .block
+      at : (t : Option State) → (analysis House S) .table b ≡ t → From b
+      at none e = absurd (in-nil (subst (In l) (unreached-faults House S b e) (in-faults l (block-entries House S b) i)))
+      at (some s) e = record {
+        state = s;
+        holds = e;
+        line = reported S b 0 (steps-of S b) s l (subst (In l) (reached-faults House S b s e) (in-faults l (block-entries House S b) i));
+      }
 
-      on-walk : HouseWalk S b → State
-      on-walk w = effects House (reference-typed S) (r .earlier) (along (flow House S) w)
-
-      Found : Option State → Type 0
-      Found t = check (r .step) (effects House (reference-typed S) (r .earlier) (entered House S t)) ≡ some (l .fault)
-
-      at : (t : Option State) → (analysis House S) .table b ≡ t → Shown (r .step) on-walk (l .fault) ⊎ ((¬ HouseWalk S b) × Found none)
-      at none e = inr (house-unreached S C b e, subst Found e (r .found))
-      at (some s) e =
-          inl (shown on-walk (r .step) (meet-of-effects (reference-typed S) (r .earlier) (λ (w : HouseWalk S b). along (flow House S) w) (meets-of S C (house-good S .met b s e))) (l .fault)
-          (subst Found e (r .found)))
-
-  pub explained : In l (find-errors House S) → Explained S l
-  unfolding From find-errors block-faults
+  pub explained : In (fault-entry l) (find-errors House S) → Explained S l
+  unfolding find-errors
   explained i =
-      let c = in-block (block-faults House S) l (S .blocks) 0 i in
-      let r = reported S (c .0) 0 (steps-of S (c .0)) (checked-from House S (c .0)) l (c .1) in
-      explain (subst From (sym (r .block-is)) r)
+      let c = in-block (block-entries House S) (fault-entry l) (S .blocks) 0 i in
+      let f = from (c .block) (c .holds) in
+      explain (subst From (sym (f .line .block-is)) f)

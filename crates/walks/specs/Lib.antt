@@ -24,9 +24,12 @@ pub mod Honest
 pub mod Simulation
 pub mod Above
 pub mod Witness
+pub mod Entries
 pub mod Lines
 pub mod Acceptance
 pub mod Faults
+pub mod Unreached
+pub mod Former
 -- sheets that are read
 pub mod Small
 pub mod Reading

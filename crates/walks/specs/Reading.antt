@@ -16,8 +16,8 @@ use Rattle.paper.specs.Text.{Bytes, lines, fields, Name, real, virtual}
 use Rattle.paper.specs.Sheet.{Operand, Step, spill, reload, move, change, operation, safepoint, Block, Sheet, no-block, listed, reference-typed, steps-of}
 use Rattle.paper.specs.Limits.{max-regs, max-slots, max-vregs, max-blocks, max-operands, max-inst, max-steps}
 use Rattle.paper.specs.Refusals.{Record, function-record, typed-record, block-record, step-record, record-of, any, empty, out-of-place, name-beyond, reg-beyond, operand-beyond, step-beyond, beyond-limit, types-differ, step-count, step-too-many, so-far-of, Condition, first-holding, conditions, add-step, add-record, Reading, loaded, refused, Lined, good, bad, judged, read-record, read-line, read-end, carry-on, read-lines, no-text, read}
-use Rattle.paper.specs.Report.{Line, faults, report-text}
-use Rattle.paper.specs.Answer.{accepted, said-of, said-after, answer}
+use Rattle.paper.specs.Report.{Line, entries, faults, report-text}
+use Rattle.paper.specs.Answer.{accepted, said-by, said-of, said-after, answer}
 use Rattle.paper.specs.Walks.{In, here, there}
 use Rattle.paper.specs.declared.Refusal.{Refusal}
 use Rattle.paper.specs.declared.Rule.{Rule}
@@ -344,10 +344,11 @@ read-typed bytes S e = record { changes = λ b inst k from to i. go inst k from 
 
 -- a sheet is answered accepted exactly when it is read and has no fault
 pub accepted-sheet : (rule : Rule) (bytes text : Bytes) → answer rule bytes ≡ accepted text → (S : Sheet) × ((read bytes ≡ loaded S) × (faults rule S ≡ []))
-unfolding answer said-after said-of
+unfolding answer said-after said-of said-by faults
 accepted-sheet rule bytes text e = at (read bytes) refl e
   where
-    none-found : (S : Sheet) → read bytes ≡ loaded S → (ls : List Line) → faults rule S ≡ ls → said-of rule ls ≡ accepted text → (S : Sheet) × ((read bytes ≡ loaded S) × (faults rule S ≡ []))
+    none-found : (S : Sheet) → read bytes ≡ loaded S → (ls : List Line) → faults rule S ≡ ls → said-by ls (report-text rule (entries rule S)) ≡ accepted text
+        → (S : Sheet) × ((read bytes ≡ loaded S) × (faults rule S ≡ []))
     none-found S h [] f g = (S, (h, f))
     none-found S h (l ∷ ls) f g = let z : _≡_ {A = ℕ} 0 1 = cc in absurd (omega arith)
 
@@ -355,6 +356,7 @@ accepted-sheet rule bytes text e = at (read bytes) refl e
     at (loaded S) h f = none-found S h (faults rule S) refl f
     at (refused refusal) h f = let z : _≡_ {A = ℕ} 0 1 = cc in absurd (omega arith)
 
-pub sheet-accepted : (rule : Rule) (bytes : Bytes) (S : Sheet) → read bytes ≡ loaded S → faults rule S ≡ [] → answer rule bytes ≡ accepted (report-text rule [])
-unfolding answer said-after said-of
-sheet-accepted rule bytes S h f = ap (said-after rule) h ∙ ap (said-of rule) f
+pub sheet-accepted : (rule : Rule) (bytes : Bytes) (S : Sheet) → read bytes ≡ loaded S → faults rule S ≡ []
+    → answer rule bytes ≡ accepted (report-text rule (entries rule S))
+unfolding answer said-after said-of said-by faults
+sheet-accepted rule bytes S h f = ap (said-after rule) h ∙ ap (λ (ls : List Line). said-by ls (report-text rule (entries rule S))) f

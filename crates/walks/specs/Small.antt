@@ -9,7 +9,7 @@ use Rattle.paper.specs.Limits.{max-regs, max-slots, max-vregs, max-blocks, max-
 use Rattle.paper.specs.Sheet.{Operand, Step, spill, reload, move, change, operation, safepoint}
 use Rattle.paper.specs.Cells.{Cell, absent, unknown, conflicted, named}
 use Rattle.paper.specs.Steps.{Fault, missing-allocation-for-reg, unknown-value-in-reg, incorrect-value-in-reg, unknown-value-in-slot, incorrect-value-in-slot, stack-map-specifies-non-ref-slot, stack-map-specifies-undefined-slot}
-use Rattle.paper.specs.Report.{Line}
+use Rattle.paper.specs.Report.{Line, Entry, fault-entry, unreached-entry, faults-in}
 use Rattle.paper.specs.Walks.{In}
 
 abbrev pub Small : ℕ → Type 0
@@ -44,10 +44,18 @@ unfoldable pub SmallLines : List Line → Type 0
 SmallLines [] = Unit {0}
 SmallLines (l ∷ ls) = SmallLine l × SmallLines ls
 
--- a report's lines, and how many they are
-pub record SmallReport (ls : List Line) : Type 0 where
-  pub lines : SmallLines ls
-  pub count : Small (length ls)
+abbrev pub SmallEntry : Entry → Type 0
+SmallEntry (fault-entry l) = SmallLine l
+SmallEntry (unreached-entry b) = Small b
+
+unfoldable pub SmallEntries : List Entry → Type 0
+SmallEntries [] = Unit {0}
+SmallEntries (e ∷ es) = SmallEntry e × SmallEntries es
+
+-- a report's lines, and how many faults are among them
+pub record SmallReport (es : List Entry) : Type 0 where
+  pub lines : SmallEntries es
+  pub count : Small (length (faults-in es))
 
 -- a register that need not be given
 abbrev pub SmallAllocation : Option ℕ → Type 0

@@ -15,7 +15,7 @@ use Rattle.paper.specs.Sheet.{Step, Sheet, succs-of, steps-of, reference-typed}
 use Rattle.paper.specs.Cells.{Cell, meet}
 use Rattle.paper.specs.Steps.{State, counts-of, unreached-state, effect, effects}
 use Rattle.paper.specs.Runs.{Run, meet-states, flow, begin, spread, step, run, visit-bound, EndsAfter, analysis, entered, checked-from}
-use Rattle.paper.specs.Report.{Line, find-errors, faults, report-text}
+use Rattle.paper.specs.Report.{Line, fault-entry, unreached-entry, find-errors, entries, faults, report-text}
 use Rattle.paper.specs.Limits.{max-steps}
 use Rattle.paper.specs.Refusals.{step-count, loaded, read}
 use Rattle.paper.specs.Answer.{accepted, answer}
@@ -28,6 +28,8 @@ use Rattle.walks.specs.Bounds.{Closed, cells-counted}
 use Rattle.walks.specs.Honest.{Typed}
 use Rattle.walks.specs.Loop.{Standing}
 use Rattle.walks.specs.Faults.{Explained}
+use Rattle.walks.specs.Unreached.{Unwalked}
+use Rattle.walks.specs.Former.{former-answer}
 use Rattle.walks.specs.Meet
 use Rattle.walks.specs.Effects
 use Rattle.walks.specs.Flow
@@ -38,6 +40,8 @@ use Rattle.walks.specs.House as Ends
 use Rattle.walks.specs.Honest
 use Rattle.walks.specs.Acceptance as Accepting
 use Rattle.walks.specs.Faults
+use Rattle.walks.specs.Unreached
+use Rattle.walks.specs.Former
 use Rattle.walks.specs.OldRule
 use Rattle.walks.specs.Reading
 use Rattle.walks.specs.Small.{SmallReport}
@@ -178,8 +182,8 @@ module _ (S : Sheet) (C : Closed S) where
       → (b : ℕ) → (in-order (flow House S) order (begin House S)) .table b ≡ (analysis House S) .table b
   house-in-order = Ends.house-in-order S C
 
-  -- 4. "House acceptance holds exactly when no allocation is missing, every check passes on every walk and in every unreached block
-  -- alone, and no two walks come to the same `P` with different names in a slot it lists (that is kind 7)."
+  -- 4. "House acceptance holds exactly when no allocation is missing, every check passes on every walk .. and no two walks come to the
+  -- same `P` with different names in a slot it lists (that is kind 7).", as document 02, A5, has it: of walks only.
   pub acceptance : Typed S → (faults House S ≡ []) ↔ Acceptance S
   acceptance T = (Accepting.accepted-sentence S C T, Accepting.acceptance-suffices S C)
 
@@ -201,8 +205,9 @@ pub read-few : (bytes : Bytes) (S : Sheet) → read bytes ≡ loaded S → step-
 read-few = Reading.read-few
 
 -- What is known of every sheet that is read, accepted or not: the state that a reached block is checked from is the meet over all
--- walks, any other block is checked alone, visited blocks are the reached ones, and each run ends within document 01's count of
--- visits. Where an allocation is missing "no analysis runs": there this is a fact of the definitions only.
+-- walks, any other block keeps the all Unknown state and has a line `N` in place of faults, visited blocks are the reached ones, and each
+-- run ends within document 01's count of visits. Where an allocation is missing "no analysis runs": there this is a fact of the
+-- definitions only.
 pub record ReadSheet (S : Sheet) : Type 0 where
   pub meets : (b : ℕ) → HouseWalk S b → MeetOverWalks (flow House S) b (checked-from House S b)
   pub alone : (b : ℕ) → ¬ HouseWalk S b → checked-from House S b ≡ unreached-state House S
@@ -211,7 +216,8 @@ pub record ReadSheet (S : Sheet) : Type 0 where
   pub old-ends : (run (flow Old S) (1 + S .blocks * (4 * (S .regs + S .slots))) (begin Old S)) .queue ≡ []
   pub typed-ends : (run (flow House S) (S .blocks * (1 + 2 * (S .regs + S .slots))) (begin House S)) .queue ≡ []
   pub visits : (rule : Rule) → (k : ℕ) × (EndsAfter rule S k × (k ≤ visit-bound rule S))
-  pub shown : (l : Line) → In l (find-errors House S) → Explained S l
+  pub shown : (l : Line) → In (fault-entry l) (find-errors House S) → Explained S l
+  pub unreached : (b : ℕ) → In (unreached-entry b) (entries House S) ↔ Unwalked S b
 
 pub read-sheet : (bytes : Bytes) (S : Sheet) → read bytes ≡ loaded S → ReadSheet S
 read-sheet bytes S h =
@@ -225,6 +231,7 @@ read-sheet bytes S h =
       typed-ends = rw (cells-counted S) at (Honest.typed-run-ends S C (read-typed bytes S h));
       visits = λ rule. run-visits rule S C;
       shown = Faults.explained S C;
+      unreached = Unreached.unreached-exactly S C;
     }
 
 -- bytes that are read, and whose sheet the acceptance sentence holds of
@@ -255,36 +262,46 @@ accepted-bytes bytes text e =
     }
 
 -- and bytes that are read are accepted exactly when the sentence holds of their sheet
-pub bytes-acceptance : (bytes : Bytes) (S : Sheet) → read bytes ≡ loaded S → (answer House bytes ≡ accepted (report-text House [])) ↔ Acceptance S
+pub bytes-acceptance : (bytes : Bytes) (S : Sheet) → read bytes ≡ loaded S
+    → (answer House bytes ≡ accepted (report-text House (entries House S))) ↔ Acceptance S
 bytes-acceptance bytes S h = (said, λ E. Reading.sheet-accepted House bytes S h (exactly .1 E))
   where
     exactly : (faults House S ≡ []) ↔ Acceptance S
     exactly = acceptance S (read-closed bytes S h) (read-typed bytes S h)
 
-    said : answer House bytes ≡ accepted (report-text House []) → Acceptance S
+    said : answer House bytes ≡ accepted (report-text House (entries House S)) → Acceptance S
     said e =
-        let a = Reading.accepted-sheet House bytes (report-text House []) e in
+        let a = Reading.accepted-sheet House bytes (report-text House (entries House S)) e in
         exactly .0 (subst (λ (R : Sheet). faults House R ≡ []) (Reading.loaded-inj (sym (a .1 .0) ∙ h)) (a .1 .1))
 
 pub acceptable : {bytes : Bytes} → AcceptedBytes bytes → Acceptable bytes
 acceptable a = record { sheet = a .sheet; is-read = a .is-read; sentence = a .sentence }
 
-pub accepted-exactly : (bytes : Bytes) → (answer House bytes ≡ accepted (report-text House [])) ↔ Acceptable bytes
+pub accepted-exactly : (bytes : Bytes) → ((text : Bytes) × (answer House bytes ≡ accepted text)) ↔ Acceptable bytes
 accepted-exactly bytes = (
-  λ e. acceptable (accepted-bytes bytes (report-text House []) e),
-  λ a. bytes-acceptance bytes (a .sheet) (a .is-read) .1 (a .sentence),
+  λ e. acceptable (accepted-bytes bytes (e .0) (e .1)),
+  λ a. (_, bytes-acceptance bytes (a .sheet) (a .is-read) .1 (a .sentence)),
 )
 
 -- 7. Further. Where marks are the names' own, as they are in every sheet that is read, 2 does in place of 3.
 pub typed-run-ends : (S : Sheet) → Closed S → Typed S → (run (flow House S) (S .blocks * (1 + 2 * (S .regs + S .slots))) (begin House S)) .queue ≡ []
 typed-run-ends S C T = rw (cells-counted S) at (Honest.typed-run-ends S C T)
 
--- Every fault that the house rule finds is shown by a walk on which that step's check fails, or, kind 7 alone, by two walks; a fault
--- of an unreached block is its own. `Explained` and `Shown` stand in Faults.antt.
-pub explained : (S : Sheet) → Closed S → (l : Line) → In l (find-errors House S) → Explained S l
+-- Every fault that the house rule finds is shown by a walk on which that step's check fails, or, kind 7 alone, by two walks. `Explained`
+-- and `Shown` stand in Faults.antt.
+pub explained : (S : Sheet) → Closed S → (l : Line) → In (fault-entry l) (find-errors House S) → Explained S l
 explained = Faults.explained
 
+-- Document 02, A5: the line `N b` stands in the report exactly when no allocation is missing, b is a block and no walk comes to it
+-- (`Unwalked`, Unreached.antt).
+pub unreached-exactly : (S : Sheet) → Closed S → (b : ℕ) → In (unreached-entry b) (entries House S) ↔ Unwalked S b
+unreached-exactly = Unreached.unreached-exactly
+
+-- "The old rule is unchanged": what is answered under it is what document 01 says (`former-answer`, Former.antt, which has no line `N`).
+pub old-unchanged : (bytes : Bytes) → answer Old bytes ≡ former-answer Old bytes
+old-unchanged = Former.old-unchanged
+
 -- Every number in the report of a sheet that is read, under either rule, has at most five digits, and a register is given wherever
--- a line names one; the lines are as many as five digits can count (`SmallReport`, Small.antt).
-pub read-reported : (rule : Rule) (bytes : Bytes) (S : Sheet) → read bytes ≡ loaded S → SmallReport (faults rule S)
+-- a line names one; the faults are as many as five digits can count (`SmallReport`, Small.antt).
+pub read-reported : (rule : Rule) (bytes : Bytes) (S : Sheet) → read bytes ≡ loaded S → SmallReport (entries rule S)
 read-reported = Written.read-reported

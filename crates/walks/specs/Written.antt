@@ -4,7 +4,7 @@
 use mathlib.Core.Path.{_≡_, refl, sym, ap, subst}
 use mathlib.Core.Logic.{_⊎_, inl, inr}
 use mathlib.Core.Bool.{Bool, true, false}
-use mathlib.Core.List.{List, [], _∷_, _++_, map-eq-nil-iff, nil≢cons}
+use mathlib.Core.List.{List, [], _∷_, _++_, map, map-eq-nil-iff, nil≢cons}
 use mathlib.Core.Option.{Option, none, some}
 use Prim.Native.Nat.{ℕ, suc, zero, _+_, _≤_, _<_}
 use native.Mathlib.Omega.{arith}
@@ -15,8 +15,8 @@ use Rattle.paper.specs.Limits.{max-operands, max-steps}
 use Rattle.paper.specs.Sheet.{Operand, Step, spill, reload, move, change, operation, safepoint, Block, Sheet, no-block, steps-of, reference-typed}
 use Rattle.paper.specs.Cells.{Cell, absent, unknown, conflicted, named, pick, old-meet, meet, copied, overwritten, house-changed, old-changed, collected}
 use Rattle.paper.specs.Steps.{State, counts-of, Location, register, slot, get, location-of, row-of, unfilled, entry-rows, entry-state, unreached-state, Fault, incorrect-value-in-reg, incorrect-value-in-slot, first-of, check-use, check-uses, check-change, check-slot, check-slots, check, old-define, house-define, old-effect, house-effect, effect, effects}
-use Rattle.paper.specs.Runs.{Flow, Run, store, push-at, push, spread, visit-at, step-at, step, run, pointwise, meet-states, flow, before, begin, visit-bound, analysis, entered, checked-from}
-use Rattle.paper.specs.Report.{Line, inst-of, line-of, faults-from, block-faults, by-block, find-errors, first-list, unallocated, missing-names, names-lines, missing-from, missing-blocks, missing-allocations, faults}
+use Rattle.paper.specs.Runs.{Flow, Run, store, push-at, push, spread, visit-at, step-at, step, run, pointwise, meet-states, flow, before, begin, visit-bound, analysis}
+use Rattle.paper.specs.Report.{Line, inst-of, line-of, faults-from, Entry, fault-entry, unreached-entry, block-entries, by-block, find-errors, first-list, unallocated, missing-names, names-lines, missing-from, missing-blocks, missing-allocations, entries, faults-in}
 use Rattle.paper.specs.Refusals.{step-count, loaded, read}
 use Rattle.paper.specs.Walks.{In, here, there}
 use Rattle.paper.specs.declared.Rule.{Rule}
@@ -25,8 +25,9 @@ use Rattle.walks.specs.Choices.{update-holds, some-inj, some-not-none, i
 use Rattle.walks.specs.Heights.{each-nil, each-cons, each-both}
 use Rattle.walks.specs.Meet.{names-meet, meet-keeps}
 use Rattle.walks.specs.Fits.{Shape, shape-of, shape, Row, Fits, unfilled-fits, fits-unreached, fits-get, fits-put, fits-everywhere, fits-copy, fits-collect}
+use Rattle.walks.specs.Entries.{faults-of-faults, faults-append, reached-entries, unreached-entries}
 use Rattle.walks.specs.Lines.{first-none}
-use Rattle.walks.specs.Small.{Small, SmallName, SmallReg, SmallFault, SmallLines, SmallReport, SmallAllocation, SmallOperand, SmallOperands, SmallStep, SmallCell, Limited}
+use Rattle.walks.specs.Small.{Small, SmallName, SmallReg, SmallFault, SmallLines, SmallEntries, SmallReport, SmallAllocation, SmallOperand, SmallOperands, SmallStep, SmallCell, Limited}
 use Rattle.walks.specs.Reading.{read-few, read-limited, read-small}
 
 -- of any dataflow problem: what the meet and the blocks keep holds of every state in the table, if it did at the start
@@ -409,13 +410,41 @@ count-behind [] (suc b) = refl
 count-behind (B ∷ body) zero = refl
 count-behind (B ∷ body) (suc b) = count-behind body b
 
--- where no block has more lines than steps, all blocks together have not either
-blocks-small : (S : Sheet) (f : ℕ → List Line) (n b : ℕ) → ((c : ℕ) → c < b + n → Lines (length (steps-of S c)) (f c))
-    → Lines (step-count (drop b (S .body))) (by-block f b n)
-unfolding by-block
-blocks-small S f zero b h = no-lines (step-count (drop b (S .body)))
+-- lines with so many faults at most among them
+record Entries (most : ℕ) (es : List Entry) : Type 0 where
+  small : SmallEntries es
+  few : length (faults-in es) ≤ most
+
+fault-entries : {most : ℕ} (ls : List Line) → Lines most ls → Entries most (map fault-entry ls)
+unfolding SmallLines SmallEntries
+fault-entries ls p = record { small = each ls (p .small); few = rw (faults-of-faults ls) (p .few) }
+  where
+    each : (ls : List Line) → SmallLines ls → SmallEntries (map fault-entry ls)
+    each [] h = tt
+    each (l ∷ ls) h = (h .0, each ls (h .1))
+
+unreached-small : (most b : ℕ) → Small b → Entries most (unreached-entry b ∷ [])
+unfolding SmallEntries faults-in
+unreached-small most b h = record { small = (h, tt); few = omega arith }
+
+entries-append : {m n : ℕ} (most : ℕ) (k l : List Entry) → m + n ≤ most → Entries m k → Entries n l → Entries most (k ++ l)
+unfolding SmallEntries
+entries-append most k l room p q = record {
+  small = both-small k (p .small);
+  few = rw (faults-append k l, length-append (faults-in k) (faults-in l)) (omega (arith, p .few, q .few));
+}
+  where
+    both-small : (k : List Entry) → SmallEntries k → SmallEntries (k ++ l)
+    both-small [] h = q .small
+    both-small (x ∷ k) h = (h .0, both-small k (h .1))
+
+-- where no block has more faults than steps, all blocks together have not either
+blocks-small : (S : Sheet) (f : ℕ → List Entry) (n b : ℕ) → ((c : ℕ) → c < b + n → Entries (length (steps-of S c)) (f c))
+    → Entries (step-count (drop b (S .body))) (by-block f b n)
+unfolding by-block SmallEntries faults-in
+blocks-small S f zero b h = record { small = tt; few = omega arith }
 blocks-small S f (suc n) b h =
-    lines-append (step-count (drop b (S .body))) (f b) (by-block f (suc b) n) (omega (arith, count-behind (S .body) b)) (h b (omega arith))
+    entries-append (step-count (drop b (S .body))) (f b) (by-block f (suc b) n) (omega (arith, count-behind (S .body) b)) (h b (omega arith))
     (blocks-small S f n (suc b) (λ c l. h c (omega arith)))
 
 module _ (S : Sheet) (L : Limited (S .regs) (S .slots) (S .vregs) (S .blocks)) (small : (b : ℕ) (x : Step) → In x (steps-of S b) → SmallStep x)
@@ -452,12 +481,10 @@ module _ (S : Sheet) (L : Limited (S .regs) (S .slots) (S .vregs) (S .blocks)) (
     entry-small =
         each-cons (row-below {P = SmallCell} (S .regs) (λ i. named (real i) false) (λ i l. omega (arith, L .few-regs))) (unfilled-fits rule (small-unfilled rule) (S .slots ∷ []))
 
-    unreached-small : Fits SmallCell (shape S) (unreached-state rule S)
-    unreached-small = fits-unreached S rule (small-unfilled rule)
-
     begun : (b : ℕ) (s : State) → (begin rule S) .table b ≡ some s → Fits SmallCell (shape S) s
     unfolding begin before
-    begun = update-holds (before rule S) (S .entry) (entry-state rule S) (Fits SmallCell (shape S)) entry-small (elsewhere rule unreached-small)
+    begun = update-holds (before rule S) (S .entry) (entry-state rule S) (Fits SmallCell (shape S)) entry-small
+        (elsewhere rule (fits-unreached S rule (small-unfilled rule)))
       where
         elsewhere : (rule : Rule) → Fits SmallCell (shape S) (unreached-state rule S) → (b : ℕ) (s : State) → before rule S b ≡ some s
             → Fits SmallCell (shape S) s
@@ -470,31 +497,34 @@ module _ (S : Sheet) (L : Limited (S .regs) (S .slots) (S .vregs) (S .blocks)) (
         holds-run (flow rule S) (Fits SmallCell (shape S)) (small-states rule (shape S))
         (λ b. small-effects (reference-typed S) (shape S) rule (steps-of S b) (small b)) (visit-bound rule S) (begin rule S) begun
 
-    checked-small : (b : ℕ) → Fits SmallCell (shape S) (checked-from rule S b)
-    unfolding checked-from entered
-    checked-small b = at ((analysis rule S) .table b) refl
+    -- a block that has a state has at most a fault a step; any other has its own line
+    block-entries-small : missing-allocations S ≡ [] → (c : ℕ) → c < 0 + S .blocks → Entries (length (steps-of S c)) (block-entries rule S c)
+    unfolding missing-allocations
+    block-entries-small e c l = at ((analysis rule S) .table c) refl
       where
-        at : (o : Option State) → (analysis rule S) .table b ≡ o → Fits SmallCell (shape S) (entered rule S o)
-        at none e = unreached-small
-        at (some s) e = analysed b s e
+        h : Small c
+        h = block-small c (omega arith)
 
-    errors-small : missing-allocations S ≡ [] → Lines (step-count (S .body)) (find-errors rule S)
-    unfolding find-errors block-faults missing-allocations
-    errors-small e = blocks-small S (block-faults rule S) (S .blocks) 0 block
-      where
-        block : (c : ℕ) → c < 0 + S .blocks → Lines (length (steps-of S c)) (block-faults rule S c)
-        block c l =
-            let h = block-small c (omega arith) in
+        at : (o : Option State) → (analysis rule S) .table c ≡ o → Entries (length (steps-of S c)) (block-entries rule S c)
+        at none t = rw (unreached-entries rule S c t) (unreached-small (length (steps-of S c)) c h)
+        at (some s) t =
             let none = none-missing c h 0 (steps-of S c) (block-allocated (S .blocks) 0 e c (omega arith) l) in
-            found-small c h rule S 0 (steps-of S c) (omega (arith, block-few c)) (small c) none (checked-from rule S c) (checked-small c)
+            rw (reached-entries rule S c s t)
+            (fault-entries (faults-from rule S c 0 (steps-of S c) s)
+            (found-small c h rule S 0 (steps-of S c) (omega (arith, block-few c)) (small c) none s (analysed c s t)))
 
-    faults-small : SmallReport (faults rule S)
-    unfolding faults missing-allocations
-    faults-small =
-        first-of-lists SmallReport (missing-allocations S) (find-errors rule S)
-        (let m = missing-lines (S .blocks) 0 (omega arith) in record { lines = m .small; count = omega (arith, m .few) })
-        λ e. let f = errors-small e in record { lines = f .small; count = omega (arith, f .few) }
+    errors-small : missing-allocations S ≡ [] → Entries (step-count (S .body)) (find-errors rule S)
+    unfolding find-errors
+    errors-small e = blocks-small S (block-entries rule S) (S .blocks) 0 (block-entries-small e)
+
+    entries-small : SmallReport (entries rule S)
+    unfolding entries missing-allocations
+    entries-small =
+        first-of-lists SmallReport (map fault-entry (missing-allocations S)) (find-errors rule S)
+        (let m = fault-entries (missing-allocations S) (missing-lines (S .blocks) 0 (omega arith)) in
+        record { lines = m .small; count = omega (arith, m .few) })
+        λ e. let f = errors-small (map-eq-nil-iff _ .0 e) in record { lines = f .small; count = omega (arith, f .few) }
 
 -- under either rule, of every sheet that is read
-pub read-reported : (rule : Rule) (bytes : Bytes) (S : Sheet) → read bytes ≡ loaded S → SmallReport (faults rule S)
-read-reported rule bytes S e = faults-small S (read-limited bytes S e) (read-small bytes S e) (read-few bytes S e) rule
+pub read-reported : (rule : Rule) (bytes : Bytes) (S : Sheet) → read bytes ≡ loaded S → SmallReport (entries rule S)
+read-reported rule bytes S e = entries-small S (read-limited bytes S e) (read-small bytes S e) (read-few bytes S e) rule

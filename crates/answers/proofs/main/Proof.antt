@@ -1,12 +1,13 @@
 -- `main` is safe: the lent buffers keep their lengths from request to request.
 use mathlib.Core.Path.{_≡_}
 use lib.ListN.{length}
+use Rattle.paper.specs.Limits.{sealed-size}
 use borrow.Author.Needs.{needs}
 use Rattle.answers.proofs.main.Statement.{statement}
 use Rattle.answers.proofs.main.Tie as tie
 
 abbrev Inv-loop : tie.InvT-loop
-Inv-loop request₀ report₀ words₀ queue₀ turns₀ request report words queue turns = (length request ≡ 65538) × (length report ≡ 32795)
+Inv-loop request₀ report₀ words₀ queue₀ turns₀ request report words queue turns = (length request ≡ 65538) × (length report ≡ sealed-size)
 
 abbrev μ-loop : tie.MeasureT-loop
 μ-loop request₀ report₀ words₀ queue₀ turns₀ request report words queue turns = turns

@@ -27,7 +27,7 @@ none-missing c = nothing-missing (c .before .before .find-missing .ensures) (c .
 checkable-at : (c : tie.After-analyze) → let s = given-to (told-of c) .args in Checkable (s .rule) (c .analyze .last .1 .0)
 checkable-at c =
     let s = given-to (told-of c) in
-    checkable (s .pre .0) (s .pre .1) (none-missing (told-of c)) (c .analyze .ensures .0)
+    checkable (s .pre .0) (s .pre .1) (none-missing (told-of c)) (s .pre .3) (c .analyze .ensures .0)
 
 find-missing-requires : tie.Need-find-missing-requires
 find-missing-requires c κs = search needs
@@ -75,7 +75,7 @@ returns-2 c =
     let a = c .before .before .before .before .before .before .before .before .before in
     let s = given-to (told-of a) in
     let e = a .analyze .ensures .0 in
-    let same = same-sheet (s .pre .0) (s .pre .1) (none-missing (told-of a)) e in
+    let same = same-sheet (s .pre .0) (s .pre .1) (none-missing (told-of a)) (s .pre .3) e in
     reported (rw same at (c .before .before .write-errors .ensures)) (e .kept .same-length) (e .same-length)
 
 pub write-faults-spec : {M : Type 1} → statement M

@@ -1,11 +1,11 @@
--- `find_errors` meets its contract: the pass has been over the blocks so far, at most a line a step, and the blocks left get fewer;
--- a sheet has at most 1,024 steps, so there is room for the next block's faults.
+-- `find_errors` meets its contract: the pass has been over the blocks so far, at most a fault's line a step and a line a block, and the
+-- blocks left get fewer; a sheet has at most 1,024 steps and 64 blocks, so there is room for the next block's lines.
 use mathlib.Core.Path.{_≡_, refl}
 use Prim.Native.Nat.{_+_, _*_, _-_, _≤_}
 use native.Mathlib.Omega.{arith}
 use lib.ListN.{length, getD}
-use Rattle.paper.specs.Limits.{longest-fault-line}
-use Rattle.paper.specs.Report.{block-faults, by-block}
+use Rattle.paper.specs.Limits.{longest-fault-line, longest-unreached-line}
+use Rattle.paper.specs.Report.{block-entries, by-block}
 use Rattle.layout.specs.Layout.{blocks-word}
 use Rattle.loaded.specs.Loaded.{sheet-of}
 use Rattle.faults.specs.Passes.{AfterPass}
@@ -17,8 +17,8 @@ use Rattle.faults.proofs.find_errors.Tie as tie
 
 abbrev Inv-loop : tie.InvT-loop
 Inv-loop pass rule words report₀ at blocks next₀ block₀ report next block =
-    (block ≤ blocks) × (next ≤ at + longest-fault-line * count-from words 0 block) × (length report ≡ length report₀)
-    × AfterPass pass (by-block (block-faults rule (sheet-of words)) 0 block) report₀ at report next
+    (block ≤ blocks) × (next ≤ at + longest-fault-line * count-from words 0 block + longest-unreached-line * block)
+    × (length report ≡ length report₀) × AfterPass pass (by-block (block-entries rule (sheet-of words)) 0 block) report₀ at report next
 
 abbrev μ-loop : tie.MeasureT-loop
 μ-loop pass rule words report₀ at blocks next₀ block₀ report next block = blocks - block
@@ -34,11 +34,14 @@ blocks-requires c κs = c .before .before .pre .0 .loaded .bounds .size
 loop-holds : tie.Need-loop-holds Inv-loop μ-loop
 loop-holds c = (omega arith, omega arith, refl, blocks-none _ _ _ _ _)
 
-check-block-requires : tie.Need-check-block-requires Inv-loop μ-loop
-check-block-requires c κs = let l = c .before .before in
+block-lines-requires : tie.Need-block-lines-requires Inv-loop μ-loop
+block-lines-requires c κs = let l = c .before .before in
     let s = l .before .before .before .before in
-    let b = l .loop .block in
-    (s .pre .0, omega arith, omega (arith, count-next (s .args .words .now) b, count-within (b + 1) (s .pre .0) (omega arith)))
+    let b = l .loop .block in (
+      s .pre .0,
+      omega arith,
+      omega (arith, count-next (s .args .words .now) b, count-within (b + 1) (s .pre .0) (omega arith), s .pre .0 .loaded .bounds .blocks),
+    )
 
 add-block : tie.Need-add-block Inv-loop μ-loop
 add-block c = omega (arith, start-of (c .before .before .before .before .before) .pre .0 .loaded .bounds)
@@ -53,7 +56,7 @@ loop-again c = let k = c .before .before in
       omega arith,
       omega (arith, count-next (s .args .words .now) (l .loop .block)),
       omega arith,
-      blocks-more _ _ _ (l .loop .inv .3) (k .check-block .ensures .0),
+      blocks-more _ _ _ (l .loop .inv .3) (k .block-lines .ensures .0),
     )
 
 same-length : tie.Need-same-length Inv-loop μ-loop
@@ -62,8 +65,10 @@ same-length c = search needs
 returns : tie.Need-returns Inv-loop μ-loop
 returns c = let l = c .before in
     let s = l .before .before .before .before in
-    let e : l .loop .block ≡ getD (s .args .words .now) blocks-word 0 = omega arith in
-    (blocks-all _ _ (rw e at (l .loop .inv .3)), omega (arith, count-within (l .loop .block) (s .pre .0) (omega arith)))
+    let e : l .loop .block ≡ getD (s .args .words .now) blocks-word 0 = omega arith in (
+      blocks-all _ _ (rw e at (l .loop .inv .3)),
+      omega (arith, count-within (l .loop .block) (s .pre .0) (omega arith), s .pre .0 .loaded .bounds .blocks),
+    )
 
 pub find-errors-spec : {M : Type 1} → statement M
 find-errors-spec =
@@ -73,7 +78,7 @@ find-errors-spec =
     μ-loop
     blocks-requires
     loop-holds
-    check-block-requires
+    block-lines-requires
     add-block
     loop-less
     loop-again

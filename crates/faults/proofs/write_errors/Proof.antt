@@ -1,8 +1,10 @@
--- `write_errors` meets its contract: no allocation is missing, so the faults are those that the checks find. Counting them leaves
--- the report as it is; the header and 1,024 lines fit, and the sheet is accepted where the count is 0.
+-- `write_errors` meets its contract: no allocation is missing, so the lines are every block's. Counting the faults leaves the report as
+-- it is; the header, 1,024 lines of faults and 64 of blocks fit. Where the count is 0 the sheet is accepted, and its lines are those of
+-- the blocks without a mark.
 use native.Mathlib.Omega.{arith}
 use Rattle.report.specs.Lengths.{header-short}
-use Rattle.faults.proofs.LawsReported.{errors-accepted, errors-faulty, faults-found}
+use Rattle.faults.proofs.LawsBlock.{faultless-lines}
+use Rattle.faults.proofs.LawsReported.{none-counted, errors-accepted, errors-faulty, entries-found}
 use borrow.Author.Needs.{needs}
 use Rattle.faults.proofs.write_errors.Statement.{statement}
 use Rattle.faults.proofs.write_errors.Tie as tie
@@ -22,15 +24,24 @@ write-header-requires c κs = let k = c .before .before .before in
     let s = start-of k in
     (omega arith, omega (arith, header-short (s .args .rule) (k .find-errors .result)))
 
+write-unmarked-requires : tie.Need-write-unmarked-requires
+write-unmarked-requires c κs = let h = c .before .before .before .before in
+    let k = count-of h in
+    let s = start-of k in
+    (s .pre .0 .loaded, s .pre .0 .room, omega (arith, header-short (s .args .rule) (k .find-errors .result)))
+
 same-length : tie.Need-same-length
 same-length c = search needs
 
 returns : tie.Need-returns
-returns c = let h = c .before .before .before in
+returns c = let u = c .before .before in
+    let h = u .before .before .before .before .before in
     let k = count-of h in
     let s = start-of k in
-    rw (faults-found _ _ (s .pre .0 .allocated))
-    (errors-accepted (k .find-errors .ensures .0) (h .write-header .ensures) (c .if1 .taken)
+    let z = u .before .before .if1 .taken in
+    let same = faultless-lines (s .pre .0) (none-counted (k .find-errors .ensures .0) z) in
+    rw (entries-found _ _ (s .pre .0 .allocated))
+    (errors-accepted _ (k .find-errors .ensures .0) (h .write-header .ensures) z (rw same at (u .write-unmarked .ensures .0))
     (omega (arith, header-short (s .args .rule) (k .find-errors .result)))
     (s .pre .1))
 
@@ -48,8 +59,8 @@ returns-2 c = let w = c .before .before in
     let h = w .before .before .before .before .before in
     let k = count-of h in
     let s = start-of k in
-    rw (faults-found _ _ (s .pre .0 .allocated))
-    (errors-faulty (k .find-errors .ensures .0) (h .write-header .ensures) (w .before .before .if1 .left)
+    rw (entries-found _ _ (s .pre .0 .allocated))
+    (errors-faulty _ (k .find-errors .ensures .0) (h .write-header .ensures) (w .before .before .if1 .left)
     (w .find-errors2 .ensures .0)
     (omega (arith, header-short (s .args .rule) (k .find-errors .result)))
     (s .pre .1))
@@ -60,6 +71,7 @@ write-errors-spec =
     (tie.spec
     find-errors-requires
     write-header-requires
+    write-unmarked-requires
     same-length
     returns
     find-errors-requires-2

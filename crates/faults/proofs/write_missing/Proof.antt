@@ -1,13 +1,13 @@
 -- `write_missing` meets its contract: the step that was found has an operand with no allocation, so it is an operation, and its
--- lines are all the sheet's faults: its missing uses, or, when none is missing, its missing defs.
+-- lines are all the report's: its missing uses, or, when none is missing, its missing defs.
 use mathlib.Core.Path.{_≡_, sym, _∙_, subst}
 use mathlib.Core.Bool.{true, true≢false}
-use mathlib.Core.List.{List, [], _∷_}
+use mathlib.Core.List.{List, [], _∷_, map}
 use Prim.Native.Nat.{ℕ}
 use native.Mathlib.Omega.{arith}
 use denote.Enum.Declared.{tagOf}
 use types.Run.{OneOf, miss}
-use Rattle.paper.specs.Report.{missing-names, faults}
+use Rattle.paper.specs.Report.{fault-entry, missing-names, entries}
 use Rattle.loaded.proofs.Action.{the-type}
 use Rattle.loaded.specs.declared.Action.{Action}
 use Rattle.loaded.specs.declared.Action.the-variants.{Copy, Change, Operation, Safepoint}
@@ -18,7 +18,7 @@ use Rattle.loaded.specs.Loaded.{sheet-of}
 use Rattle.report.specs.Lines.{PositionWithin}
 use Rattle.faults.specs.Missing.{step-lines}
 use Rattle.faults.proofs.LawsBlock.{room-at}
-use Rattle.faults.proofs.LawsMissing.{faults-missing, lines-of-uses, lines-of-defs, some-defs}
+use Rattle.faults.proofs.LawsMissing.{entries-missing, lines-of-uses, lines-of-defs, some-defs}
 use borrow.Author.Needs.{needs}
 use Rattle.faults.proofs.write_missing.Statement.{statement}
 use Rattle.faults.proofs.write_missing.Tie as tie
@@ -54,10 +54,10 @@ some-missing : (c : tie.After-inst)
 some-missing c = rw (sym (c .inst .given .1) ∙ c .before .before .action-at .ensures) (start-of (found-at c) .pre .1 .within .3)
 
 found : (c : tie.After-inst) → let s = start-of (found-at c) .args in
-    faults (s .rule) (sheet-of (s .words .now)) ≡ step-lines (s .block) (s .place) (step-of (s .words .now) (operation-at c))
+    entries (s .rule) (sheet-of (s .words .now)) ≡ map fault-entry (step-lines (s .block) (s .place) (step-of (s .words .now) (operation-at c)))
 found c =
     let s = start-of (found-at c) in
-    rw (sym (c .inst .given .1) ∙ c .before .before .action-at .ensures) (faults-missing _ _ _ _ (s .args .k) (s .pre .1))
+    rw (sym (c .inst .given .1) ∙ c .before .before .action-at .ensures) (entries-missing _ _ _ _ (s .args .k) (s .pre .1))
 
 position-within : (c : tie.After-inst) → let s = start-of (found-at c) .args in
     PositionWithin (record { block = s .block; place = s .place; inst = c .inst .given .0 .0 })

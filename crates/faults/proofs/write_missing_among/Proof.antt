@@ -37,7 +37,7 @@ returns c = let n = c .before .before in
     let h = n .before .before .before .before in
     let k = h .before .before in
     let s = start-of k in
-    reported-names _ _ _ (k .count-missing .ensures .0) (h .write-header .ensures) (n .write-names .ensures .0) (s .pre .4)
+    reported-names _ _ _ _ (k .count-missing .ensures .0) (h .write-header .ensures) (n .write-names .ensures .0) (s .pre .4)
     (omega (arith, short k)) (s .pre .3)
 
 pub write-missing-among-spec : {M : Type 1} → statement M
