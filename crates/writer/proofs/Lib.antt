@@ -1,0 +1,4 @@
+pub mod LawsLeft
+pub mod LawsLines
+pub mod LawsText
+pub mod LawsSheet
