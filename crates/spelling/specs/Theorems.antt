@@ -9,13 +9,17 @@ use Prim.Native.Nat.{ℕ, suc, _-_, _<_}
 use native.Mathlib.Omega.{arith}
 use borrow.Author.Tests.{eqb-true, not-false}
 use lib.Dec.{eqb, ltb}
-use lib.ListN.{length, getD}
+use lib.ListN.{length, getD, take, drop}
+use lib.Seq.{take-at}
 use Rattle.lists.specs.Split.{or-left, or-right}
 use Rattle.paper.specs.Text.{Bytes, line-feed, lines, fields}
 use Rattle.paper.specs.Sheet.{Sheet}
 use Rattle.paper.specs.Limits.{max-sheet}
 use Rattle.paper.specs.Refusals.{Record, record-of, empty, out-of-place, so-far-of, first-holding, conditions, add-record, Reading, loaded, refused, Lined, good, bad, judged, read-record, read-line, read-end, carry-on, read-lines, no-text, read}
-use Rattle.paper.specs.Writing.{record-text, records-text, records-of, sheet-text, is-read}
+use Rattle.paper.specs.Writing.{record-text, records-text, records-of, sheet-text, is-read, SheetOut, room-outcome, sheet-outcome}
+use Rattle.paper.specs.Answer.{laid}
+use Rattle.paper.specs.declared.Written.{Written}
+use Rattle.paper.specs.declared.Written.the-variants.{Text, NoSheet, NoRoom}
 use Rattle.paper.specs.declared.Refusal.{Refusal}
 use Rattle.spelling.specs.Parted.{closed-line, closed-lines, joined-fields, joined-lines}
 use Rattle.spelling.specs.Spelled.{record-spelled}
@@ -135,3 +139,53 @@ unfolding sheet-text
 read-again S R h e =
     read-lined (sheet-text S) R e λ p f.
     some-inj (sym (lines-again (records-of S) 1 none R h (rw (lines-written (records-of S) h) at f)) ∙ all-added S)
+
+-- what writing comes to
+
+answer-number : Written → ℕ
+answer-number (Text n) = 1
+answer-number NoSheet = 0
+answer-number NoRoom = 0
+
+read-true : (R : Reading) (S : Sheet) → R ≡ loaded S → is-read R ≡ true
+unfolding is-read
+read-true R S e = rw e
+
+true-read : {Q : Type 0} (R : Reading) → is-read R ≡ true → ((S : Sheet) → R ≡ loaded S → Q) → Q
+unfolding is-read
+true-read (loaded S) e k = k S refl
+true-read (refused refusal) e k = absurd (true≢false (sym e))
+
+-- "A loaded form that no sheet gives": a text is turned away exactly where no bytes load as its sheet
+pub read-exactly : (S : Sheet) → ShortSheet S → is-read (read (sheet-text S)) ≡ true → read (sheet-text S) ≡ loaded S
+read-exactly S h e = true-read (read (sheet-text S)) e λ R p. p ∙ ap loaded (read-again S R h p)
+
+pub given-read : (t : Bytes) (S : Sheet) → read t ≡ loaded S → is-read (read (sheet-text S)) ≡ true
+given-read t S e = read-true (read (sheet-text S)) S (given-again t S e)
+
+pub none-gives : (S : Sheet) → ShortSheet S → is-read (read (sheet-text S)) ≡ false → (t : Bytes) → read t ≡ loaded S → ⊥
+none-gives S h e t p = true≢false (sym (given-read t S p) ∙ e)
+
+-- "writing what was read from an accepted or faulty sheet gives that sheet's own bytes"
+pub own-bytes : (t : Bytes) (S : Sheet) (out : List ℕ) → read t ≡ loaded S → sheet-outcome S out ≡ room-outcome t out
+unfolding sheet-outcome
+own-bytes t S out e = rw (given-read t S e, ← read-text t S e)
+
+-- "Reading what it writes gives the loaded form again"
+pub written-again : (S : Sheet) (out after : List ℕ) (n : ℕ) → ShortSheet S → sheet-outcome S out ≡ record { answer = Text n; out = after } → read (take n after) ≡ loaded S
+unfolding sheet-outcome room-outcome laid answer-number
+written-again S out after n h e = go (is-read (read (sheet-text S))) refl (ltb (length out) (length (sheet-text S))) e
+  where
+    said : Written → List ℕ → SheetOut
+    said answer buffer = record { answer = answer; out = buffer }
+
+    go : (b : Bool) → is-read (read (sheet-text S)) ≡ b → (c : Bool)
+        → cond b (cond c (said NoRoom out) (said (Text (length (sheet-text S))) (laid (sheet-text S) out))) (said NoSheet out) ≡ said (Text n) after
+        → read (take n after) ≡ loaded S
+    go false p c f = absurd (let z : _≡_ {A = ℕ} 0 1 = ap (λ (o : SheetOut). answer-number (o .answer)) f in omega arith)
+    go true p true f = absurd (let z : _≡_ {A = ℕ} 0 1 = ap (λ (o : SheetOut). answer-number (o .answer)) f in omega arith)
+    go true p false f =
+        let count : Text (length (sheet-text S)) ≡ Text n = ap (λ (o : SheetOut). o .answer) f in
+        let number : n ≡ length (sheet-text S) = cc in
+        let text : laid (sheet-text S) out ≡ after = ap (λ (o : SheetOut). o .out) f in
+        rw (← text, take-at (sheet-text S) (drop (length (sheet-text S)) out) n (sym number)) (read-exactly S h p)

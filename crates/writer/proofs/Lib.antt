@@ -2,3 +2,5 @@ pub mod LawsLeft
 pub mod LawsLines
 pub mod LawsText
 pub mod LawsSheet
+pub mod LawsShort
+pub mod Theorems
