@@ -4,25 +4,22 @@ use mathlib.Core.Path.{_≡_, refl, sym, ap, _∙_}
 use mathlib.Core.Bool.{Bool, true, false, cond, _&&_, true≢false}
 use mathlib.Core.List.{List, [], _∷_}
 use mathlib.Core.Option.{Option, none, some}
-use Prim.Native.Nat.{ℕ, suc, zero, _+_, _≤_, _<_}
-use native.Mathlib.Nat.{zero-add}
+use Prim.Native.Nat.{ℕ, _≤_}
 use native.Mathlib.Omega.{arith}
-use borrow.Author.Tests.{le-leb}
-use lib.Dec.{leb, ltb}
-use lib.ListN.{length, getD, take}
+use lib.ListN.{length, take}
 use Rattle.lists.specs.Regions.{All}
 use Rattle.paper.specs.Text.{Bytes}
 use Rattle.paper.specs.Sheet.{Sheet}
-use Rattle.paper.specs.Limits.{max-blocks, max-succs, max-steps, words-size}
+use Rattle.paper.specs.Limits.{words-size}
 use Rattle.paper.specs.Refusals.{loaded, read}
 use Rattle.paper.specs.Writing.{sheet-text, is-read, SheetOut, room-outcome, sheet-outcome}
 use Rattle.paper.specs.declared.Written.{Written}
 use Rattle.paper.specs.declared.Written.the-variants.{Text, NoSheet, NoRoom}
-use Rattle.layout.specs.Layout.{opened-word, steps-word}
-use Rattle.loaded.specs.Loaded.{first-step, step-total, succ-total, sheet-of, BlockBounds, Loaded}
+use Rattle.loaded.specs.Loaded.{sheet-of, Loaded}
 use Rattle.spelling.specs.Theorems.{own-bytes, written-again}
-use Rattle.writer.specs.Form.{blocks-fit, fits, form-of, form-outcome, WriteExported}
+use Rattle.writer.specs.Form.{fits, form-of, form-outcome, WriteExported}
 use Rattle.writer.specs.declared.WriteVerdict.{WriteVerdict}
+use Rattle.writer.proofs.LawsLoad.{loaded-form}
 use Rattle.writer.proofs.LawsShort.{Word, words-short}
 
 -- what the words hold, if they hold a form, is what stands in them
@@ -42,27 +39,6 @@ written-read words out after n S a f e =
     let q : S ≡ sheet-of words = form-sheet words S f in
     let o : sheet-outcome S out ≡ record { answer = Text n; out = after } = sym (rw f at e) in
     written-again S out after n (rw q (words-short words a)) o
-
--- words that a sheet was loaded into hold its form
-
-blocks-loaded : (words : List ℕ) (b n : ℕ) → ((i : ℕ) → b ≤ i → i < b + n → BlockBounds words i) → getD words steps-word 0 ≤ max-steps → blocks-fit words b n ≡ true
-unfolding blocks-fit
-blocks-loaded words b zero each few = refl
-blocks-loaded words b (suc n) each few =
-    let here = each b (omega arith) (omega arith) in
-    rw (le-leb (succ-total words b) max-succs (here .succs), le-leb (first-step words b + step-total words b) max-steps (omega (arith, here .steps)))
-    (blocks-loaded words (b + 1) n (λ i p q. each i (omega arith) (omega arith)) few)
-
-pub loaded-form : (words : List ℕ) → words-size ≤ length words → Loaded words → form-of words ≡ some (sheet-of words)
-unfolding form-of fits
-loaded-form words size l =
-    let few = l .bounds .opened in
-    let most = l .bounds .blocks in
-    rw (
-      le-leb words-size (length words) size,
-      le-leb (getD words opened-word 0) max-blocks (omega arith),
-      blocks-loaded words 0 (getD words opened-word 0) (λ i p q. l .bounds .each-block i (omega arith)) (l .bounds .steps),
-    )
 
 -- "writing what was read from an accepted or faulty sheet gives that sheet's own bytes"
 pub loaded-written : (t : Bytes) (words out : List ℕ) → words-size ≤ length words → Loaded words → read t ≡ loaded (sheet-of words)

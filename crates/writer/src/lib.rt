@@ -21,6 +21,7 @@ ghost use Rattle.loaded.specs.Actions.{register-of, operands, step-of, action-a
 ghost use Rattle.loaded.specs.Loaded.{first-step, step-total, succ-total, block-at, blocks-at, marked-from, sheet-of};
 ghost use Rattle.spelling.specs.Parted.{row};
 ghost use Rattle.writer.specs.Form.{BlockFits, typed-text, groups-text, fits, form-of, form-outcome, verdict-of, function-in, copy-letter, WriteExported};
+ghost use Rattle.writer.specs.Load.{SheetLoaded, load-verdict-of, LoadExported};
 ghost use Rattle.writer.specs.Filled.{Filled, line-room};
 use layout::BLOCK_BASE;
 use layout::DEFS_FROM;
@@ -36,6 +37,8 @@ use loaded::CopyKind;
 use loaded::Counts;
 use loaded::NO_REGISTER;
 use loaded::REGISTER;
+use paper::Refusal;
+use paper::TOO_SHORT;
 use paper::Written;
 use sheet::Loading;
 
@@ -49,6 +52,13 @@ const TEXT_ROOM: usize = MAX_SHEET + LINE_ROOM;
 pub struct WriteVerdict {
     pub answer: u8,
     pub length: usize,
+}
+
+// What loading comes to over the C interface: the refusal's number and line, 0 where the sheet was read.
+#[repr(C)]
+pub struct LoadVerdict {
+    pub number: u8,
+    pub line: usize,
 }
 
 // The words have the published size, and no count in them goes beyond the room that they have for it.
@@ -404,6 +414,48 @@ pub fn write_sheet(words: &[u16], out: &mut [u8]) -> Written
     }
     lay(&text[..length], out);
     Written::Text(length)
+}
+
+// Loads a sheet, so that a caller can hold its loaded form. Fewer words than the published size are refused by 1, and nothing changes; a
+// sheet that is refused leaves all words zero, and one that is read leaves its form in them.
+pub fn load_sheet(sheet: &[u8], words: &mut [u16]) -> Loading
+    ensures { λ r. ⌜ SheetLoaded (now (sheet .entry)) (now (words .entry)) (now (words .exit)) r ⌝ }
+{
+    if words.len() < WORDS_SIZE {
+        return Loading::Refused(Refusal {
+            number: TOO_SHORT,
+            line: 0,
+        });
+    }
+    let loading = sheet::load(sheet, words);
+    match loading {
+        Loading::Loaded => Loading::Loaded,
+        Loading::Refused(refusal) => {
+            scratch::clear_words(words);
+            Loading::Refused(refusal)
+        }
+    }
+}
+
+fn load_verdict_of(loading: Loading) -> LoadVerdict
+    ensures { λ r. ⌜ r ≡ load-verdict-of loading ⌝ }
+{
+    match loading {
+        Loading::Loaded => LoadVerdict { number: 0, line: 0 },
+        Loading::Refused(refusal) => LoadVerdict {
+            number: refusal.number,
+            line: refusal.line,
+        },
+    }
+}
+
+// `load_sheet` for C and Rust.
+#[no_mangle]
+pub extern "C" fn itanropen_load(sheet: &[u8], words: &mut [u16]) -> LoadVerdict
+    ensures { λ r. ⌜ LoadExported (now (sheet .entry)) (now (words .entry)) (now (words .exit)) r ⌝ }
+{
+    let loading = load_sheet(sheet, words);
+    load_verdict_of(loading)
 }
 
 fn verdict_of(written: Written) -> WriteVerdict
