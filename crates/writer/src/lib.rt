@@ -21,7 +21,7 @@ ghost use Rattle.loaded.specs.Actions.{register-of, operands, step-of, action-a
 ghost use Rattle.loaded.specs.Loaded.{first-step, step-total, succ-total, block-at, blocks-at, marked-from, sheet-of};
 ghost use Rattle.spelling.specs.Parted.{row};
 ghost use Rattle.writer.specs.Form.{BlockFits, typed-text, groups-text, fits, form-of, form-outcome, verdict-of, function-in, copy-letter, WriteExported};
-ghost use Rattle.writer.specs.Load.{SheetLoaded, load-verdict-of, LoadExported};
+ghost use Rattle.writer.specs.Load.{SheetLoaded, WrittenBack, load-verdict-of, LoadExported};
 ghost use Rattle.writer.specs.Filled.{Filled, line-room};
 use layout::BLOCK_BASE;
 use layout::DEFS_FROM;
@@ -433,6 +433,24 @@ pub fn load_sheet(sheet: &[u8], words: &mut [u16]) -> Loading
         Loading::Refused(refusal) => {
             scratch::clear_words(words);
             Loading::Refused(refusal)
+        }
+    }
+}
+
+// Loads a sheet and writes it back: its own bytes stand at the start of the lent buffer, and all words are zero.
+pub fn write_back(sheet: &[u8], words: &mut [u16], out: &mut [u8]) -> Written
+    ensures { λ r. ⌜ WrittenBack (now (sheet .entry)) (now (words .entry)) (now (out .entry)) (now (words .exit)) (now (out .exit)) r ⌝ }
+{
+    if words.len() < WORDS_SIZE {
+        return Written::NoSheet;
+    }
+    let loading = load_sheet(sheet, words);
+    match loading {
+        Loading::Refused(refusal) => Written::NoSheet,
+        Loading::Loaded => {
+            let written = write_sheet(words, out);
+            scratch::clear_words(words);
+            written
         }
     }
 }
