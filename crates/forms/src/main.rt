@@ -8,6 +8,10 @@ use paper::Written;
 
 const HEAD: usize = 3;
 
+fn word_of(low: u8, high: u8) -> u16 {
+    low as u16 + high as u16 * 256
+}
+
 // The words behind the head, as many as there are and as there is room for: how many.
 fn unpack(bytes: &[u8], words: &mut [u16]) -> usize
     ensures { λ r. ⌜ r ≤ length (now (words .exit)) ⌝ }
@@ -18,7 +22,7 @@ fn unpack(bytes: &[u8], words: &mut [u16]) -> usize
         if bytes.len() <= at + 1 {
             break;
         }
-        words[count] = bytes[at] as u16 + bytes[at + 1] as u16 * 256;
+        words[count] = word_of(bytes[at], bytes[at + 1]);
         count += 1;
         at += 2;
     }
@@ -32,7 +36,7 @@ fn size_of(bytes: &[u8], most: usize) -> usize
     if bytes.len() < HEAD {
         return 0;
     }
-    let size = bytes[0] as usize + bytes[1] as usize * 256 + bytes[2] as usize * 65536;
+    let size = word_of(bytes[0], bytes[1]) as usize + bytes[2] as usize * 65536;
     if most < size { most } else { size }
 }
 

@@ -6,7 +6,7 @@ use Rattle.stream.proofs.main.Statement.{statement}
 use Rattle.stream.proofs.main.Tie as tie
 
 abbrev Inv-loop : tie.InvT-loop
-Inv-loop sheet₀ text₀ words₀ queue₀ turns₀ sheet text words queue turns = (length sheet ≡ 70000) × (length text ≡ 32795)
+Inv-loop sheet₀ text₀ words₀ queue₀ turns₀ sheet text words queue turns = (length sheet ≡ 70000) × (length text ≡ 65536)
 
 abbrev μ-loop : tie.MeasureT-loop
 μ-loop sheet₀ text₀ words₀ queue₀ turns₀ sheet text words queue turns = turns
