@@ -36,7 +36,7 @@ fn size_of(bytes: &[u8], most: usize) -> usize
     if bytes.len() < HEAD {
         return 0;
     }
-    let size = word_of(bytes[0], bytes[1]) as usize + bytes[2] as usize * 65536;
+    let size = word_of(bytes[0], bytes[1]) as usize + word_of(bytes[2], 0) as usize * 65536;
     if most < size { most } else { size }
 }
 

@@ -1,22 +1,25 @@
+-- `forms::fill` is safe: the room keeps its length.
+use native.Mathlib.Omega.{arith}
+use mathlib.Core.Path.{_≡_, refl}
+use Prim.Native.Nat.{_-_}
+use lib.ListN.{length, length-set}
 use borrow.Author.Needs.{needs}
 use Rattle.forms.proofs.fill.Statement.{statement}
 use Rattle.forms.proofs.fill.Tie as tie
-use Rattle.forms.proofs.fill.Reads as reads
-use Rattle.forms.proofs.fill.Lts as lts
 
 abbrev Inv-loop : tie.InvT-loop
-Inv-loop room₀ i₀ room i = ?
+Inv-loop room₀ i₀ room i = length room ≡ length room₀
 
 abbrev μ-loop : tie.MeasureT-loop
-μ-loop room₀ i₀ room i = ?
+μ-loop room₀ i₀ room i = length room₀ - i
 
 -- src/main.rt:45:5
 loop-holds : tie.Need-loop-holds Inv-loop μ-loop
-loop-holds c = ?
+loop-holds c = refl
 
 -- src/main.rt:46:9
 slice-write-room : tie.Need-slice-write-room Inv-loop μ-loop
-slice-write-room c = search needs
+slice-write-room c = omega arith
 
 -- src/main.rt:47:9
 add-i : tie.Need-add-i Inv-loop μ-loop
@@ -24,11 +27,11 @@ add-i c = search needs
 
 -- src/main.rt:45:5
 loop-less : tie.Need-loop-less Inv-loop μ-loop
-loop-less c = search needs
+loop-less c = omega arith
 
 -- src/main.rt:45:5
 loop-again : tie.Need-loop-again Inv-loop μ-loop
-loop-again c = ?
+loop-again c = simp length-set (c .before .loop .inv)
 
 -- src/main.rt:43:1
 same-length : tie.Need-same-length Inv-loop μ-loop
@@ -36,7 +39,7 @@ same-length c = search needs
 
 -- src/main.rt:43:1
 returns : tie.Need-returns Inv-loop μ-loop
-returns c = ?
+returns c = search needs
 
 pub fill-spec : {M : Type 1} → statement M
 fill-spec =

@@ -1,10 +1,10 @@
+-- `forms::write_answer` is safe: the text is the part of the room that was written.
+use native.Mathlib.Omega.{arith}
+use lib.ListN.{length-take}
+use Rattle.writer.specs.Within.{form-within}
 use borrow.Author.Needs.{needs}
 use Rattle.forms.proofs.write_answer.Statement.{statement}
 use Rattle.forms.proofs.write_answer.Tie as tie
-use Rattle.forms.proofs.write_answer.Reads as reads
-use Rattle.forms.proofs.write_answer.Lts as lts
-use Rattle.frames.proofs.write.Reads as write-reads
-use Rattle.writer.proofs.write_sheet.Reads as write-sheet-reads
 
 -- src/main.rt:53:9
 write-sheet-requires : tie.Need-write-sheet-requires
@@ -32,11 +32,13 @@ returns c = search needs
 
 -- src/main.rt:59:27
 slice-reshare-prefix-write : tie.Need-slice-reshare-prefix-write
-slice-reshare-prefix-write c = search needs
+slice-reshare-prefix-write c = let m = c .before .before .before .before in
+    omega (arith, form-within _ _ _ _ _ (m .written .given .1) (m .before .before .before .before .write-sheet .ensures))
 
 -- src/main.rt:59:27
 slice-aggregate-write-2 : tie.Need-slice-aggregate-write-2
-slice-aggregate-write-2 c = search needs
+slice-aggregate-write-2 c = let m = c .before .before .before .before .before in
+    simp length-take (omega (arith, form-within _ _ _ _ _ (m .written .given .1) (m .before .before .before .before .write-sheet .ensures)))
 
 -- src/main.rt:59:13
 write-requires-2 : tie.Need-write-requires-2

@@ -3,7 +3,6 @@ use borrow.Author.Needs.{needs}
 use Rattle.stream.proofs.back_length.Statement.{statement}
 use Rattle.stream.proofs.back_length.Tie as tie
 
-
 -- src/main.rt:58:9
 write-back-requires : tie.Need-write-back-requires
 write-back-requires c κs = search needs

@@ -5,7 +5,6 @@ use borrow.Author.Needs.{needs}
 use Rattle.stream.proofs.write_back.Statement.{statement}
 use Rattle.stream.proofs.write_back.Tie as tie
 
-
 -- src/main.rt:68:9
 back-length-requires : tie.Need-back-length-requires
 back-length-requires c κs = search needs

@@ -4,7 +4,6 @@ use borrow.Author.Needs.{needs}
 use Rattle.writer.proofs.write_back.Statement.{statement}
 use Rattle.writer.proofs.write_back.Tie as tie
 
-
 returns : tie.Need-returns
 returns c = back-short _ _ _ (c .if1 .taken)
 

@@ -5,7 +5,6 @@ use borrow.Author.Needs.{needs}
 use Rattle.writes.proofs.main.Statement.{statement}
 use Rattle.writes.proofs.main.Tie as tie
 
-
 abbrev Inv-loop : tie.InvT-loop
 Inv-loop sheet₀ text₀ words₀ queue₀ turns₀ sheet text words queue turns = (length sheet ≡ 70000) × (length text ≡ 65536)
 

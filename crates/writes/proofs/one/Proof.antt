@@ -5,7 +5,6 @@ use borrow.Author.Needs.{needs}
 use Rattle.writes.proofs.one.Statement.{statement}
 use Rattle.writes.proofs.one.Tie as tie
 
-
 -- src/main.rt:42:9
 read-requires : tie.Need-read-requires
 read-requires c κs = search needs

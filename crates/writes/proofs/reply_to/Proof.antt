@@ -3,7 +3,6 @@ use borrow.Author.Needs.{needs}
 use Rattle.writes.proofs.reply_to.Statement.{statement}
 use Rattle.writes.proofs.reply_to.Tie as tie
 
-
 -- src/main.rt:16:9
 write-back-requires : tie.Need-write-back-requires
 write-back-requires c κs = search needs

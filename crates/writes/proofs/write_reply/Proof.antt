@@ -5,7 +5,6 @@ use borrow.Author.Needs.{needs}
 use Rattle.writes.proofs.write_reply.Statement.{statement}
 use Rattle.writes.proofs.write_reply.Tie as tie
 
-
 -- src/main.rt:31:9
 reply-to-requires : tie.Need-reply-to-requires
 reply-to-requires c κs = search needs
