@@ -196,9 +196,10 @@ uint8_t itanropen_verify(const uint8_t *text, size_t text_count);
 typedef struct itanropen_load_verdict {
     uint8_t number; /* the refusal's number; 0 where the sheet was read */
     size_t line;    /* the sheet's line, from 1, or 0 for the whole and where it was read */
+    size_t field;   /* the line's first field to show it, as in a verdict; else 0 */
 } itanropen_load_verdict;
 
-typedef char itanropen_load_verdict_has_16_bytes[sizeof(itanropen_load_verdict) == 16 && offsetof(itanropen_load_verdict, line) == 8 ? 1 : -1];
+typedef char itanropen_load_verdict_has_24_bytes[sizeof(itanropen_load_verdict) == 24 && offsetof(itanropen_load_verdict, field) == 16 ? 1 : -1];
 
 /* What writing comes to. */
 typedef struct itanropen_write_verdict {

@@ -21,7 +21,7 @@ use Rattle.writer.specs.declared.LoadVerdict.{LoadVerdict}
 
 -- refusal 1, which changes nothing
 abbrev pub too-short : Refusal
-too-short = record { number = 1; line = 0 }
+too-short = record { number = 1; line = 0; field = 0 }
 
 pub record SheetLoaded (sheet : Bytes) (before after : List ℕ) (r : Loading) : Type 0 where
   pub short : length before < words-size → (r ≡ loading.Refused too-short) × (after ≡ before)
@@ -43,8 +43,8 @@ pub record WrittenBack (sheet : Bytes) (words out words′ out′ : List ℕ) (r
 
 -- over the C interface: the refusal, and all 0 where there is none
 unfoldable pub load-verdict-of : Loading → LoadVerdict
-load-verdict-of loading.Loaded = record { number = 0; line = 0 }
-load-verdict-of (loading.Refused refusal) = record { number = refusal .number; line = refusal .line }
+load-verdict-of loading.Loaded = record { number = 0; line = 0; field = 0 }
+load-verdict-of (loading.Refused refusal) = record { number = refusal .number; line = refusal .line; field = refusal .field }
 
 pub record LoadExported (sheet : Bytes) (before after : List ℕ) (r : LoadVerdict) : Type 0 where
   pub short : length before < words-size → (r ≡ load-verdict-of (loading.Refused too-short)) × (after ≡ before)

@@ -54,11 +54,12 @@ pub struct WriteVerdict {
     pub length: usize,
 }
 
-// What loading comes to over the C interface: the refusal's number and line, 0 where the sheet was read.
+// What loading comes to over the C interface: the refusal's number, line and field, 0 where the sheet was read.
 #[repr(C)]
 pub struct LoadVerdict {
     pub number: u8,
     pub line: usize,
+    pub field: usize,
 }
 
 // The words have the published size, and no count in them goes beyond the room that they have for it.
@@ -425,6 +426,7 @@ pub fn load_sheet(sheet: &[u8], words: &mut [u16]) -> Loading
         return Loading::Refused(Refusal {
             number: TOO_SHORT,
             line: 0,
+            field: 0,
         });
     }
     let loading = sheet::load(sheet, words);
@@ -459,10 +461,15 @@ fn load_verdict_of(loading: Loading) -> LoadVerdict
     ensures { λ r. ⌜ r ≡ load-verdict-of loading ⌝ }
 {
     match loading {
-        Loading::Loaded => LoadVerdict { number: 0, line: 0 },
+        Loading::Loaded => LoadVerdict {
+            number: 0,
+            line: 0,
+            field: 0,
+        },
         Loading::Refused(refusal) => LoadVerdict {
             number: refusal.number,
             line: refusal.line,
+            field: refusal.field,
         },
     }
 }

@@ -9,7 +9,7 @@ use layout::WORDS_SIZE;
 use paper::Rule;
 use paper::Written;
 
-// The sheet written back, or `X number line`: its length.
+// The sheet written back, or `X number line field`: its length.
 fn reply_to(sheet: &[u8], text: &mut [u8], words: &mut [u16], queue: &mut [u8]) -> usize
     ensures { λ r. ⌜ r ≤ length (now (text .exit)) ⌝ }
 {
