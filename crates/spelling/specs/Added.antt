@@ -50,7 +50,8 @@ step-more x (B ∷ []) e =
     ap (λ (t : List Record). block-record (B .succs) ∷ t) (one-behind step-record (B .steps) x)
 step-more x (B ∷ C ∷ Bs) e =
     ap (λ (t : List Record). block-record (B .succs) ∷ t)
-    (ap (λ (t : List Record). map step-record (B .steps) ++ t) (step-more x (C ∷ Bs) refl) ∙ sym (append-assoc (map step-record (B .steps)) (block-records (C ∷ Bs)) (step-record x ∷ [])))
+    (ap (λ (t : List Record). map step-record (B .steps) ++ t) (step-more x (C ∷ Bs) refl)
+    ∙ sym (append-assoc (map step-record (B .steps)) (block-records (C ∷ Bs)) (step-record x ∷ [])))
 
 pub record-more : (so-far : Option Sheet) (r : Record) → out-of-place so-far r ≡ false
     → records-of (add-record (so-far-of so-far) r) ≡ so-far-records so-far ++ (r ∷ [])

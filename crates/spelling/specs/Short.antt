@@ -114,7 +114,8 @@ plain-texts (step-record (change inst k from to)) h =
     (plain-number inst (h .0), (plain-number k (h .1), (plain-name from (h .2), (plain-name to (h .3), tt))))
 plain-texts (step-record (operation inst uses defs)) h =
     let behind : Plain (operand-texts defs) = rw append-nil at (plain-operands defs [] (h .2 .operands) tt) in
-    (plain-number inst (h .0), (plain-number (length uses) (h .1 .count), plain-operands uses _ (h .1 .operands) (plain-number (length defs) (h .2 .count), behind)))
+    let more : Plain (digits (length defs) ∷ operand-texts defs) = (plain-number (length defs) (h .2 .count), behind) in
+    (plain-number inst (h .0), (plain-number (length uses) (h .1 .count), plain-operands uses _ (h .1 .operands) more))
 plain-texts (step-record (safepoint inst slots)) h = (plain-number inst (h .0), plain-numbers slots (h .1))
 
 plain-letter : (r : Record) → unbroken (letter-of r ∷ []) ≡ true
@@ -200,7 +201,8 @@ record-again (step-record (move into from)) h = rw (number-of-digits into (h .0)
 record-again (step-record (change inst k from to)) h =
     rw (number-of-digits inst (h .0), number-of-digits k (h .1), read-name from (h .2), read-name to (h .3)) refl
 record-again (step-record (operation inst uses defs)) h =
-    let behind : counted-operands-of (digits (length defs) ∷ operand-texts defs) ≡ some (record { value = defs; rest = [] }) = rw append-nil at (read-group defs [] (h .2)) in
+    let behind : counted-operands-of (digits (length defs) ∷ operand-texts defs) ≡ some (record { value = defs; rest = [] }) =
+    rw append-nil at (read-group defs [] (h .2)) in
     rw (number-of-digits inst (h .0), read-group uses (digits (length defs) ∷ operand-texts defs) (h .1), behind) refl
 record-again (step-record (safepoint inst slots)) h = rw (number-of-digits inst (h .0), read-numbers slots (h .1)) refl
 

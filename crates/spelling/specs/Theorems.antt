@@ -80,7 +80,8 @@ line-text so-far l R e =
     let here : record-text r ≡ l ++ (line-feed ∷ []) = sym (record-spelled (fields l) r p) ∙ joined-fields l in
     rw (q, record-more so-far r (in-place so-far r h), text-append (so-far-records so-far) (r ∷ []), append-nil, here)
 
-lines-text : (ls : List Bytes) (line : ℕ) (so-far : Option Sheet) (S : Sheet) → read-lines line so-far ls ≡ loaded S → text-so-far so-far ++ closed-lines ls ≡ sheet-text S
+lines-text : (ls : List Bytes) (line : ℕ) (so-far : Option Sheet) (S : Sheet) → read-lines line so-far ls ≡ loaded S
+    → text-so-far so-far ++ closed-lines ls ≡ sheet-text S
 unfolding read-lines closed-lines text-so-far so-far-records sheet-text
 lines-text [] line so-far S e = ended-with line so-far S e λ q. append-nil (text-so-far so-far) ∙ ap text-so-far q
 lines-text (l ∷ ls) line so-far S e =
@@ -121,7 +122,8 @@ given-again t S e = rw (← read-text t S e) e
 
 -- a text that is read again
 
-lines-again : (rs : List Record) (line : ℕ) (so-far : Option Sheet) (S : Sheet) → ShortRecords rs → read-lines line so-far (map line-of rs) ≡ loaded S → added so-far rs ≡ some S
+lines-again : (rs : List Record) (line : ℕ) (so-far : Option Sheet) (S : Sheet) → ShortRecords rs
+    → read-lines line so-far (map line-of rs) ≡ loaded S → added so-far rs ≡ some S
 unfolding read-lines added ShortRecords
 lines-again [] line so-far S h e = ended-with line so-far S e λ q. q
 lines-again (r ∷ rs) line so-far S h e =
@@ -172,7 +174,8 @@ unfolding sheet-outcome
 own-bytes t S out e = rw (given-read t S e, ← read-text t S e)
 
 -- "Reading what it writes gives the loaded form again"
-pub written-again : (S : Sheet) (out after : List ℕ) (n : ℕ) → ShortSheet S → sheet-outcome S out ≡ record { answer = Text n; out = after } → read (take n after) ≡ loaded S
+pub written-again : (S : Sheet) (out after : List ℕ) (n : ℕ) → ShortSheet S → sheet-outcome S out ≡ record { answer = Text n; out = after }
+    → read (take n after) ≡ loaded S
 unfolding sheet-outcome room-outcome laid answer-number
 written-again S out after n h e = go (is-read (read (sheet-text S))) refl (ltb (length out) (length (sheet-text S))) e
   where

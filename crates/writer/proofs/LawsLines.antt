@@ -41,7 +41,8 @@ typed-next typed n h = rw (add-one n, drop-cons typed n 0 h) (go (eqb (getD type
     rest : List ℕ
     rest = marked-from (suc n) (drop (suc n) typed)
 
-    go : (b : Bool) → records-text (map typed-record (cond b rest (n ∷ rest))) ≡ cond b [] (record-text (typed-record n)) ++ records-text (map typed-record rest)
+    go : (b : Bool)
+        → records-text (map typed-record (cond b rest (n ∷ rest))) ≡ cond b [] (record-text (typed-record n)) ++ records-text (map typed-record rest)
     go true = refl
     go false = refl
 

@@ -29,7 +29,8 @@ use Rattle.writer.specs.declared.LoadVerdict.{LoadVerdict}
 
 -- words that a sheet was loaded into hold its form
 
-blocks-loaded : (words : List ℕ) (b n : ℕ) → ((i : ℕ) → b ≤ i → i < b + n → BlockBounds words i) → getD words steps-word 0 ≤ max-steps → blocks-fit words b n ≡ true
+blocks-loaded : (words : List ℕ) (b n : ℕ) → ((i : ℕ) → b ≤ i → i < b + n → BlockBounds words i) → getD words steps-word 0 ≤ max-steps
+    → blocks-fit words b n ≡ true
 unfolding blocks-fit
 blocks-loaded words b zero each few = refl
 blocks-loaded words b (suc n) each few =
@@ -77,7 +78,8 @@ module _ {sheet : Bytes} {before after : List ℕ} {r : Loading} (size : words-s
     cleared = λ p refusal q. loaded-not-refused (read sheet) q (sym e ∙ l .answer);
   }
 
-  pub read-refused : (refusal : Refusal) (later : List ℕ) → r ≡ loading.Refused refusal → later ≡ replicate (length after) 0 → SheetLoaded sheet before later (loading.Refused refusal)
+  pub read-refused : (refusal : Refusal) (later : List ℕ) → r ≡ loading.Refused refusal → later ≡ replicate (length after) 0
+      → SheetLoaded sheet before later (loading.Refused refusal)
   unfolding zeros
   read-refused refusal later e z = record {
     short = λ p. absurd (omega arith);

@@ -83,7 +83,8 @@ module _ (words out : List ℕ) where
             let short-by : length out < length (sheet-text (sheet-of words)) = omega (arith, stands f short room .count) in
             (rw (lt-ltb _ _ short-by)) ∙ read-as (sym answered ∙ p)
 
-        pub text-laid : answer ≡ true → n ≤ length out → (after : List ℕ) → after ≡ laid (take n l′) out → said (Text n) after ≡ form-outcome (form-of words) out
+        pub text-laid : answer ≡ true → n ≤ length out → (after : List ℕ) → after ≡ laid (take n l′) out
+            → said (Text n) after ≡ form-outcome (form-of words) out
         unfolding room-outcome
         text-laid p h after q =
             let s = stands f short room in
@@ -92,5 +93,6 @@ module _ (words out : List ℕ) where
 
 -- over the C interface
 pub exported : {words before after : List ℕ} {written : Written} {r : WriteVerdict}
-    → _≡_ {A = SheetOut} (record { answer = written; out = after }) (form-outcome (form-of words) before) → r ≡ verdict-of written → WriteExported words before after r
+    → _≡_ {A = SheetOut} (record { answer = written; out = after }) (form-outcome (form-of words) before) → r ≡ verdict-of written
+    → WriteExported words before after r
 exported e v = record { answer = v ∙ ap (λ (o : SheetOut). verdict-of (o .answer)) e; buffer = ap (λ (o : SheetOut). o .out) e }

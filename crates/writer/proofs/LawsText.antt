@@ -54,7 +54,8 @@ length-operands at n l h = go (region at n l) ∙ length-region at n l h
     go [] = refl
     go (w ∷ ws) = ap suc (go ws)
 
-pub group-row : (count : ℕ) (us : List Operand) → length us ≡ count → (tab ∷ digits count) ++ row (operand-texts us) ≡ row (digits (length us) ∷ operand-texts us)
+pub group-row : (count : ℕ) (us : List Operand) → length us ≡ count
+    → (tab ∷ digits count) ++ row (operand-texts us) ≡ row (digits (length us) ∷ operand-texts us)
 unfolding row
 group-row count us e = rw e
 
@@ -99,7 +100,8 @@ module _ {l l′ : List ℕ} {at j : ℕ} (words : List ℕ) (k : ℕ) where
   change-written e w = whole (rw e w)
 
   pub safepoint-written : {inst mask : ℕ} → action-at words k ≡ Safepoint inst mask
-      → Wrote l at (record-text (step-record (safepoint inst (set-bits mask)))) l′ j → Filled l at (record-text (step-record (step-of words (action-at words k)))) l′ j
+      → Wrote l at (record-text (step-record (safepoint inst (set-bits mask)))) l′ j
+      → Filled l at (record-text (step-record (step-of words (action-at words k)))) l′ j
   unfolding step-of
   safepoint-written e w = whole (rw e w)
 
@@ -126,7 +128,8 @@ pub steps-left : List ℕ → ℕ → ℕ → ℕ → Bytes
 steps-left words first n i = records-text (map step-record (steps-at words (first + i) (n - i)))
 
 module _ (words : List ℕ) (first n : ℕ) where
-  pub steps-next : (i : ℕ) → i < n → steps-left words first n i ≡ record-text (step-record (step-of words (action-at words (first + i)))) ++ steps-left words first n (i + 1)
+  pub steps-next : (i : ℕ) → i < n
+      → steps-left words first n i ≡ record-text (step-record (step-of words (action-at words (first + i)))) ++ steps-left words first n (i + 1)
   unfolding steps-left steps-at records-text
   steps-next i h =
       let count : n - i ≡ suc (n - (i + 1)) = omega arith in
@@ -185,7 +188,8 @@ each-fits words b (suc n) zero e h = rw (add-zero b) (record {
 })
 each-fits words b (suc n) (suc i) e h =
     let place : b + 1 + i ≡ b + suc i = omega arith in
-    rw (← place) (each-fits words (b + 1) n i (and-right (leb (first-step words b + step-total words b) max-steps) _ (and-right (leb (succ-total words b) max-succs) _ e)) (omega arith))
+    let behind = and-right (leb (succ-total words b) max-succs) _ e in
+    rw (← place) (each-fits words (b + 1) n i (and-right (leb (first-step words b + step-total words b) max-steps) _ behind) (omega arith))
 
 pub record Fitting (words : List ℕ) : Type 0 where
   pub size : words-size ≤ length words
@@ -199,15 +203,20 @@ fitting words e =
     record {
       size = leb-true _ _ (and-left _ _ e);
       opened = leb-true _ _ (and-left _ _ behind);
-      each = λ b h. let f = each-fits words 0 (getD words opened-word 0) b (and-right (leb (getD words opened-word 0) max-blocks) _ behind) h in rw zero-add at f;
+      each = λ b h.
+          let all = and-right (leb (getD words opened-word 0) max-blocks) _ behind in
+          rw zero-add at (each-fits words 0 (getD words opened-word 0) b all h);
     }
 
 -- the whole text
 pub whole-text : (words : List ℕ) → record-text (function-in words)
-    ++ (records-text (map typed-record (marked-from 0 (region typed-base typed-words words))) ++ records-text (block-records (blocks-at words 0 (getD words opened-word 0))))
+    ++ (records-text (map typed-record (marked-from 0 (region typed-base typed-words words)))
+    ++ records-text (block-records (blocks-at words 0 (getD words opened-word 0))))
     ≡ sheet-text (sheet-of words)
 unfolding sheet-text records-of records-text sheet-of
-whole-text words = rw (text-append (map typed-record (marked-from 0 (region typed-base typed-words words))) (block-records (blocks-at words 0 (getD words opened-word 0))))
+whole-text words =
+    rw (text-append (map typed-record (marked-from 0 (region typed-base typed-words words)))
+    (block-records (blocks-at words 0 (getD words opened-word 0))))
 
 -- the reader's answer
 

@@ -26,7 +26,8 @@ pub text-within : (t : Bytes) (out after : List ℕ) (n : ℕ) → room-outcome 
 unfolding room-outcome laid
 text-within t out after n e = go (ltb (length out) (length t)) refl e
   where
-    go : (b : Bool) → ltb (length out) (length t) ≡ b → cond b (said NoRoom out) (said (Text (length t)) (t ++ drop (length t) out)) ≡ said (Text n) after → n ≤ length after
+    go : (b : Bool) → ltb (length out) (length t) ≡ b
+        → cond b (said NoRoom out) (said (Text (length t)) (t ++ drop (length t) out)) ≡ said (Text n) after → n ≤ length after
     go true p f = absurd (not-text (ap (λ (o : SheetOut). o .answer) f))
       where
         not-text : NoRoom ≡ Text n → ⊥

@@ -18,8 +18,11 @@ write-opening-requires c κs = let start = c .before .before .before .before .be
 write-steps-requires : tie.Need-write-steps-requires
 write-steps-requires c κs = let w = c .before .before .before in
     let t = w .before .before in
-    let start = t .before .before .before .before in
-    (start .pre .0, omega (arith, t .step-total .ensures, t .before .first-step .ensures, start .pre .2 .steps), omega (arith, length-filled (w .write-opening .ensures), start .pre .3))
+    let start = t .before .before .before .before in (
+      start .pre .0,
+      omega (arith, t .step-total .ensures, t .before .first-step .ensures, start .pre .2 .steps),
+      omega (arith, length-filled (w .write-opening .ensures), start .pre .3),
+    )
 
 same-length : tie.Need-same-length
 same-length c = search needs

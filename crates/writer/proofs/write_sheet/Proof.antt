@@ -44,7 +44,8 @@ is-read-requires c κs = search needs
 returns-3 : tie.Need-returns-3
 returns-3 c = let r = c .before in
     let t = laid-at r in
-    turned-away _ _ (fitted (t .before .before)) (t .write-text .ensures) (r .before .before .if2 .left) (omega arith) (r .is-read .ensures) (not-true _ (c .if3 .taken))
+    turned-away _ _ (fitted (t .before .before)) (t .write-text .ensures) (r .before .before .if2 .left) (omega arith) (r .is-read .ensures)
+    (not-true _ (c .if3 .taken))
 
 returns-4 : tie.Need-returns-4
 returns-4 c = let r = c .before .before in

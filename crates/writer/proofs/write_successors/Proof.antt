@@ -18,7 +18,8 @@ use Rattle.writer.proofs.write_successors.Tie as tie
 
 abbrev Inv-loop : tie.InvT-loop
 Inv-loop words b text₀ at total next₀ i₀ text next i =
-    (i ≤ total) × (total ≤ max-succs) × (b < max-blocks) × (words-size ≤ length words) × (next ≤ at + 6 * i) × (at + 48 ≤ length text₀) × (length text ≡ length text₀)
+    (i ≤ total) × (total ≤ max-succs) × (b < max-blocks) × (words-size ≤ length words) × (next ≤ at + 6 * i)
+    × (at + 48 ≤ length text₀) × (length text ≡ length text₀)
     × Finishes text₀ at (row (map digits (region (succ-base b) total words))) text next (numbers-text (region (succ-base b + i) (total - i) words))
 
 abbrev μ-loop : tie.MeasureT-loop
