@@ -4,7 +4,7 @@
  * programs over it. Link with target/staticlib/libchecker.a, which `rt staticlib checker` proves and builds, for x86-64 Linux, from
  * the same sources as this file. The library allocates nothing, keeps nothing between calls, and calls nothing but memcpy and memset.
  *
- * 1 sizes, 2 rules and answers, 3 the verdict, 4 the buffers, 5 the functions, 6 two reports compared, 7 sealed reports. What is said of a function under
+ * 1 sizes, 2 rules and answers, 3 the verdict, 4 the buffers, 5 the functions, 6 two reports compared, 7 sealed reports, 8 sheets written. What is said of a function under
  * "Promise" is proved (docs/PROMISES.md) for every call that keeps what is said under "The caller".
  */
 #ifndef ITANROPEN_H
@@ -183,6 +183,52 @@ itanropen_verdict itanropen_check_sealed(uint64_t rule,
  * not null.
  */
 uint8_t itanropen_verify(const uint8_t *text, size_t text_count);
+
+/* 8. Sheets written, by target/staticlib/libwriter.a (`rt staticlib writer`, beside crates/writer/src/lib.rt). A sheet is loaded into words, which
+ * hold its form, and written from them again; a sheet has one spelling, so what is written is its own bytes. itanropen_write has
+ * two buffers of together 132,608 bytes on the stack.
+ */
+#define ITANROPEN_WRITTEN 0
+#define ITANROPEN_NO_SHEET 1
+#define ITANROPEN_NO_ROOM 2
+
+/* What loading comes to. Fields are only ever added behind the last. */
+typedef struct itanropen_load_verdict {
+    uint8_t number; /* the refusal's number; 0 where the sheet was read */
+    size_t line;    /* the sheet's line, from 1, or 0 for the whole and where it was read */
+    size_t field;   /* the line's first field to show it, as in a verdict; else 0 */
+} itanropen_load_verdict;
+
+typedef char itanropen_load_verdict_has_24_bytes[sizeof(itanropen_load_verdict) == 24 && offsetof(itanropen_load_verdict, field) == 16 ? 1 : -1];
+
+/* What writing comes to. */
+typedef struct itanropen_write_verdict {
+    uint8_t answer; /* ITANROPEN_WRITTEN, ITANROPEN_NO_SHEET or ITANROPEN_NO_ROOM */
+    size_t length;  /* written: how many bytes the text has; else 0 */
+} itanropen_write_verdict;
+
+typedef char itanropen_write_verdict_has_16_bytes[sizeof(itanropen_write_verdict) == 16 && offsetof(itanropen_write_verdict, length) == 8 ? 1 : -1];
+
+/* itanropen_load: a sheet into words.
+ *
+ * Promise (`LoadExported` of crates/writer/specs/Load.antt), for every sheet and every content of the words: fewer than ITANROPEN_WORDS_COUNT
+ * words are refusal 1, and nothing changes; a sheet that is refused leaves every word zero; one that is read leaves its form in the words
+ * (`form-of`), from which itanropen_write writes the sheet's own bytes. Which words the form takes is not promised.
+ *
+ * The caller: each pointer points at as many live elements as the count behind it says; the words overlap nothing; no pointer is null.
+ */
+itanropen_load_verdict itanropen_load(const uint8_t *sheet, size_t sheet_count, uint16_t *words, size_t words_count);
+
+/* itanropen_write: the form that words hold, as its sheet.
+ *
+ * Promise (`WriteExported` of crates/writer/specs/Form.antt, over `sheet-outcome` of crates/paper/specs/Writing.antt; one outcome only), for words
+ * of any length and content: ITANROPEN_NO_SHEET where no sheet gives the form, then ITANROPEN_NO_ROOM where the buffer is shorter than the
+ * text, and either leaves the buffer as it was; else the text stands at the buffer's start, later bytes keep their values, and reading the
+ * text gives the form again (`written-read`). The words are not changed.
+ *
+ * The caller: each pointer points at as many live elements as the count behind it says; the buffer overlaps nothing; no pointer is null.
+ */
+itanropen_write_verdict itanropen_write(const uint16_t *words, size_t words_count, uint8_t *out, size_t out_count);
 
 #ifdef __cplusplus
 }

@@ -74,3 +74,13 @@ SEALS = {b'good\n': GOOD, b'wrong\n': WRONG, b'none\n': NO_SEAL}
 def verified(text):
     """The exit code that a text on a seal says, or None where the text is not whole."""
     return SEALS.get(text)
+
+
+WRITTEN = 0
+
+
+def written_back(text, sheet):
+    """The exit code that a text on a sheet to be written back says, or None where it is neither the sheet nor a refusal."""
+    if text.endswith(b'\n') and REFUSAL.fullmatch(text[:-1]):
+        return REFUSED
+    return WRITTEN if text == sheet else None

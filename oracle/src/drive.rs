@@ -1,4 +1,4 @@
-//! Runs a product that speaks frames beside the oracle and compares all five answers.
+//! Runs a product that speaks frames beside the oracle and compares all six answers.
 
 use crate::columns::{targets, Target};
 use crate::damage::always;
@@ -15,7 +15,8 @@ use std::time::{Duration, Instant};
 
 const BATCH_SHEETS: usize = 1_000;
 const BATCH_BYTES: usize = 4_000_000;
-pub const NAMES: [&str; 5] = ["old answer", "house answer", "old entry states", "house entry states", "sealed house answer"];
+pub const NAMES: [&str; 6] =
+    ["old answer", "house answer", "old entry states", "house entry states", "sealed house answer", "sheet written back"];
 
 /// A command that speaks frames, started anew for each batch.
 #[derive(Clone)]
@@ -79,15 +80,15 @@ impl Running {
         let mut input = Cursor::new(bytes);
         let mut list = Vec::new();
         loop {
-            let mut five: Answers = Default::default();
-            for answer in five.iter_mut() {
+            let mut six: Answers = Default::default();
+            for answer in six.iter_mut() {
                 match read_frame(&mut input) {
                     Ok(Some(bytes)) => *answer = bytes,
                     Ok(None) => return (list, ending),
                     Err(message) => return (list, format!("{}, {}", ending, message)),
                 }
             }
-            list.push(five);
+            list.push(six);
         }
     }
 }
@@ -400,10 +401,10 @@ pub fn print_difference(product: &Product, sheet: &[u8]) -> Result<(), String> {
     for (at, name) in NAMES.iter().enumerate() {
         match given.first() {
             None => println!("{}: the product gave none ({})", name, ending),
-            Some(five) if five[at] == expected[at] => println!("{}: the same on both sides", name),
-            Some(five) => {
+            Some(six) if six[at] == expected[at] => println!("{}: the same on both sides", name),
+            Some(six) => {
                 print!("{} of the oracle:\n{}", name, visible(&expected[at]));
-                print!("{} of the product:\n{}", name, visible(&five[at]));
+                print!("{} of the product:\n{}", name, visible(&six[at]));
             }
         }
     }

@@ -1,4 +1,4 @@
-//! Frames (a line `#` and a decimal length, then that many bytes) and the five answers to a sheet.
+//! Frames (a line `#` and a decimal length, then that many bytes) and the six answers to a sheet.
 
 use crate::house::{house_faults, named};
 use crate::old;
@@ -10,10 +10,11 @@ use std::io::{self, BufRead, Write};
 
 pub const FRAME_LIMIT: usize = 70_000;
 
-/// Old answer, house answer, old entry states, house entry states, and the sealed house answer, empty where it is a refusal.
-pub type Answers = [Vec<u8>; 5];
+/// Old answer, house answer, old entry states, house entry states, the sealed house answer, empty where it is a refusal, and the sheet
+/// written back, empty where it is refused.
+pub type Answers = [Vec<u8>; 6];
 
-/// How many of them the stored lists hold: all but the sealed one.
+/// How many of them the stored lists hold: all but the sealed one and the sheet itself.
 pub const STORED: usize = 4;
 
 /// Who answers for the old rule.
@@ -33,7 +34,7 @@ pub fn answers(sheet: &[u8], old: Old, wrong: Wrong) -> Answers {
         Ok(sheet) => read_answers(&sheet, old, wrong),
         Err(refused) => {
             let line = refusal(refused);
-            [line.clone(), line, Vec::new(), Vec::new(), Vec::new()]
+            [line.clone(), line, Vec::new(), Vec::new(), Vec::new(), Vec::new()]
         }
     }
 }
@@ -58,7 +59,7 @@ fn read_answers(sheet: &Sheet, old: Old, wrong: Wrong) -> Answers {
         }
     };
     let sealed_answer = sealed(&house_answer);
-    [old_answer, house_answer, old_states, house_states, sealed_answer]
+    [old_answer, house_answer, old_states, house_states, sealed_answer, sheet.text()]
 }
 
 fn old_state_lines(list: Vec<State>) -> Vec<u8> {
@@ -114,7 +115,7 @@ fn frame_length(line: &[u8]) -> Option<usize> {
     text.parse().ok()
 }
 
-/// Answers every sheet of the input with five frames.
+/// Answers every sheet of the input with six frames.
 pub fn speak(
     input: &mut dyn BufRead,
     out: &mut dyn Write,

@@ -8,6 +8,7 @@ extern crate self as rustc_hash;
 mod columns;
 mod damage;
 mod drive;
+mod forms;
 mod frames;
 mod generate;
 mod house;
@@ -39,10 +40,11 @@ use plain::{Wrong, WRONGS};
 use std::io::{self, Write};
 
 const USAGE: &str = "usage:
-  oracle speak                       answers frames on standard input with five frames each
+  oracle speak                       answers frames on standard input with six frames each
   oracle drive N SEED COMMAND        compares COMMAND, which speaks frames, on N sheets and those of every run
   oracle pairs N SEED COMMAND        compares COMMAND, which compares two reports, on N pairs of reports
   oracle seals N SEED COMMAND        compares COMMAND, which verifies seals, on N texts
+  oracle forms N SEED COMMAND        compares COMMAND, which writes loaded words, on N lists of words
   oracle self-test N SEED            the tests of the tests
   oracle sheet SEED INDEX            writes one generated sheet
   oracle timed SEED INDEX            writes one function that bench/ times
@@ -65,6 +67,9 @@ fn main() {
         }
         ["seals", texts, seed, command] => {
             number(texts).and_then(|n| seals::drive(n, number(seed)?, command))
+        }
+        ["forms", forms, seed, command] => {
+            number(forms).and_then(|n| forms::drive(n, number(seed)?, command))
         }
         ["sheet", seed, index] => number(seed).and_then(|s| written(&generate::generate(s, number(index)?).1)),
         ["timed", seed, index] => number(seed).and_then(|s| written(&generate::timed(s, number(index)?).text())),

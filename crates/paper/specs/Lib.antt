@@ -9,5 +9,6 @@ pub mod Report
 pub mod Answer
 pub mod Comparison
 pub mod Seal
+pub mod Writing
 pub mod Walks
 pub mod Programs

@@ -1,5 +1,5 @@
-// The choices that the papers name, document 01's refusals and answers, what two reports come to, and what a seal
-// comes to, as the code passes them.
+// The choices that the papers name, document 01's refusals and answers, what two reports come to, what a seal comes to,
+// and what writing a sheet comes to, as the code passes them.
 
 // The rule is a choice of two, with no third value.
 pub enum Rule {
@@ -54,4 +54,11 @@ pub enum Seal {
     Good,
     Wrong,
     None,
+}
+
+// What writing a loaded form comes to: its text stands, of so many bytes; no sheet gives it; or the buffer has no room for its text.
+pub enum Written {
+    Text(usize),
+    NoSheet,
+    NoRoom,
 }

@@ -1,13 +1,15 @@
-// For comparison with another checker: standard input is frames, each a sheet. For each sheet it writes five frames: the old
-// answer, the house answer, the old entry states, the house entry states, and the sealed house answer, empty where it is a refusal.
+// For comparison with another checker: standard input is frames, each a sheet. For each sheet it writes six frames: the old
+// answer, the house answer, the old entry states, the house entry states, the sealed house answer, empty where it is a refusal,
+// and the sheet written back, empty where it is refused.
 ghost use Prim.Native.Nat.{_≤_};
 ghost use lib.ListN.{length};
 use frames::Frame;
+use layout::MAX_SHEET;
 use layout::QUEUE_SIZE;
-use layout::SEALED_SIZE;
 use layout::WORDS_SIZE;
 use paper::Answer;
 use paper::Rule;
+use paper::Written;
 use states::Part;
 
 // One part of a sheet's texts under both rules; whether both could be written.
@@ -49,7 +51,25 @@ fn write_sealed(
     frames::write(&text[..length])
 }
 
-// The five frames of one sheet; whether to go on.
+// The sheet written back: its length, 0 where the sheet is refused.
+fn back_length(sheet: &[u8], text: &mut [u8], words: &mut [u16]) -> usize
+    ensures { λ r. ⌜ r ≤ length (now (text .exit)) ⌝ }
+{
+    let written = writer::write_back(sheet, words, text);
+    match written {
+        Written::Text(length) => length,
+        Written::NoSheet => 0,
+        Written::NoRoom => 0,
+    }
+}
+
+// The sheet written back as a frame; whether it could be written.
+fn write_back(sheet: &[u8], text: &mut [u8], words: &mut [u16; WORDS_SIZE]) -> bool {
+    let length = back_length(sheet, text, words);
+    frames::write(&text[..length])
+}
+
+// The six frames of one sheet; whether to go on.
 fn write_frames(
     sheet: &[u8],
     text: &mut [u8],
@@ -65,6 +85,10 @@ fn write_frames(
         return false;
     }
     if !write_sealed(sheet, text, words, queue) {
+        os::fail(b"stream: standard output");
+        return false;
+    }
+    if !write_back(sheet, text, words) {
         os::fail(b"stream: standard output");
         return false;
     }
@@ -91,7 +115,8 @@ fn one(
 
 fn main() {
     let mut sheet = [0u8; 70000];
-    let mut text = [0u8; SEALED_SIZE];
+    // Room for a sheet, and so for each text of it.
+    let mut text = [0u8; MAX_SHEET];
     let mut words = [0u16; WORDS_SIZE];
     let mut queue = [0u8; QUEUE_SIZE];
     let mut turns = u64::MAX;

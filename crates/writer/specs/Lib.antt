@@ -1,0 +1,4 @@
+pub mod Form
+pub mod Load
+pub mod Within
+pub mod Filled
