@@ -4,11 +4,11 @@ ghost use Prim.Native.Nat.{_≤_};
 ghost use lib.ListN.{length};
 use frames::Frame;
 use layout::QUEUE_SIZE;
-use layout::SEALED_SIZE;
 use layout::WORDS_SIZE;
 use paper::Answer;
 use paper::Rule;
 use states::Part;
+use states::STATES_SIZE;
 
 // One part of a sheet's texts under both rules; whether both could be written.
 fn write_part(
@@ -91,7 +91,7 @@ fn one(
 
 fn main() {
     let mut sheet = [0u8; 70000];
-    let mut text = [0u8; SEALED_SIZE];
+    let mut text = [0u8; STATES_SIZE];
     let mut words = [0u16; WORDS_SIZE];
     let mut queue = [0u8; QUEUE_SIZE];
     let mut turns = u64::MAX;

@@ -1,13 +1,13 @@
 -- `stream::main` is safe: the lent buffers keep their lengths from sheet to sheet.
 use mathlib.Core.Path.{_≡_}
 use lib.ListN.{length}
-use Rattle.paper.specs.Limits.{sealed-size}
+use Rattle.states.specs.Stated.{states-size}
 use borrow.Author.Needs.{needs}
 use Rattle.stream.proofs.main.Statement.{statement}
 use Rattle.stream.proofs.main.Tie as tie
 
 abbrev Inv-loop : tie.InvT-loop
-Inv-loop sheet₀ text₀ words₀ queue₀ turns₀ sheet text words queue turns = (length sheet ≡ 70000) × (length text ≡ sealed-size)
+Inv-loop sheet₀ text₀ words₀ queue₀ turns₀ sheet text words queue turns = (length sheet ≡ 70000) × (length text ≡ states-size)
 
 abbrev μ-loop : tie.MeasureT-loop
 μ-loop sheet₀ text₀ words₀ queue₀ turns₀ sheet text words queue turns = turns
