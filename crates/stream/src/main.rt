@@ -11,7 +11,6 @@ use paper::Answer;
 use paper::Rule;
 use paper::Written;
 use states::Part;
-use states::STATES_SIZE;
 
 // One part of a sheet's texts under both rules; whether both could be written.
 fn write_part(
