@@ -14,10 +14,8 @@ use Rattle.paper.specs.Sheet.{Operand, Sheet}
 use Rattle.paper.specs.Cells.{pick}
 use Rattle.paper.specs.Refusals.{Read, next, _>>=_, allocation-of, operands-of, any, reg-beyond, is-reg, elsewhere, passing, within, name-within, reg-within, same-name, same-reg, new-name, new-reg, at-home, operands-passing, group-passing}
 use Rattle.fields.specs.Fields.{fields-behind}
-use Rattle.records.specs.Records.{Behind, Next, name-of-code, register-of-code}
-use Rattle.records.specs.declared.TwoNumbers.{TwoNumbers}
-use Rattle.records.specs.declared.TwoNumbers.the-variants as two
-use Rattle.records.specs.Parts.{put-first, NextOperand, OperandBehind, operand-of-codes, counted}
+use Rattle.records.specs.Records.{Behind, Next, NameBehind, AllocationBehind, name-of-code, register-of-code}
+use Rattle.records.specs.Parts.{put-first, NextOperand, operand-of-codes, counted}
 use Rattle.loaded.specs.declared.Counts.{Counts}
 use Rattle.fields.specs.declared.Number.{Number}
 use Rattle.fields.specs.declared.Number.the-variants as read
@@ -54,12 +52,28 @@ register-shared code n r =
 
 -- reading those before again
 
-module _ (s : Bytes) (at : ℕ) {t : TwoNumbers} where
-  pub operand-unread : OperandBehind s at t → t ≡ two.Bad → (n : ℕ) → operands-of (suc n) (fields-behind s at) ≡ none
-  operand-unread w e = subst (OperandBehind s at) e w
+put-one : (u : Operand) (o : Option (Read (List Operand)))
+    → (o >>= λ more. some (record { value = u ∷ more .value; rest = more .rest })) ≡ Option·map (put-first u) o
+put-one u none = refl
+put-one u (some x) = refl
 
-  pub operand-read : {n r after : ℕ} → OperandBehind s at t → t ≡ two.Value n r after → NextOperand s at (operand-of-codes n r) after
-  operand-read w e = subst (OperandBehind s at) e w .0
+pub name-unread : (s : Bytes) (at : ℕ) → next name-of (fields-behind s at) ≡ none → (n : ℕ) → operands-of (suc n) (fields-behind s at) ≡ none
+unfolding operands-of
+name-unread s at e n = rw e
+
+module _ {s : Bytes} {at mid : ℕ} {name : Name} (w : Next name-of s at name mid) where
+  pub register-unread : next allocation-of (fields-behind s mid) ≡ none → (n : ℕ) → operands-of (suc n) (fields-behind s at) ≡ none
+  unfolding operands-of
+  register-unread e n = rw (w .says, e)
+
+  pub operand-read : {reg : Option ℕ} {after : ℕ} → Next allocation-of s mid reg after → NextOperand s at (record { name = name; reg = reg }) after
+  unfolding operands-of
+  operand-read {reg} {after} v = record {
+    says = λ n. rw (w .says, v .says) (put-one (record { name = name; reg = reg }) (operands-of n (fields-behind s after)));
+    behind = v .behind;
+    further = omega (arith, w .further, v .further);
+    line = v .line ∙ w .line;
+  }
 
 -- an operand off the front
 record Off (u : Operand) (o : Option (Read (List Operand))) (us : List Operand) : Type 0 where
@@ -188,6 +202,14 @@ module _ (sought : Sought) (us : List Operand) (name register : ℕ) where
   unfolding reg-within new-reg at-home
   register-unasked f g e = rw (ne-eqb (sought .number) 5 f, ne-eqb (sought .number) 7 g, e)
 
+-- what the code reads again of an operand before
+module _ {s : Bytes} {at : ℕ} {r : Number} where
+  pub name-again : {c after : ℕ} → NameBehind s at r → r ≡ read.Value c after → Next name-of s at (name-of-code c) after
+  name-again w e = subst (NameBehind s at) e w .0
+
+  pub register-again : {c after : ℕ} → AllocationBehind s at r → r ≡ read.Value c after → Next allocation-of s at (register-of-code c) after
+  register-again w e = subst (AllocationBehind s at) e w .0
+
 -- what was told of an operand's fields, by their case
 module _ {s : Bytes} {at : ℕ} {r : Number} (sought : Sought) (us : List Operand) where
   pub name-shown : OperandName sought us s at r → r ≡ read.Bad → Shown name-of (name-test sought us) s at
@@ -218,11 +240,6 @@ put-last : (us : List Operand) (u : Operand) (o : Option (Read (List Operand)))
 put-last us u none = refl
 put-last us u (some x) =
     ap (λ (l : List Operand). some (record { value = l; rest = x .rest })) (sym (append-assoc us (u ∷ []) (x .value)))
-
-put-one : (u : Operand) (o : Option (Read (List Operand)))
-    → (o >>= λ more. some (record { value = u ∷ more .value; rest = more .rest })) ≡ Option·map (put-first u) o
-put-one u none = refl
-put-one u (some x) = refl
 
 pub record Grouped (sought : Sought) (s : Bytes) (first n count i : ℕ) : Type 0 where
   pub us : List Operand
@@ -298,7 +315,7 @@ module _ {sought : Sought} {s : Bytes} {first n count i : ℕ} (g : Grouped soug
               so-far = λ m.
                   let e : count + 1 + m ≡ count + suc m = omega arith in
                   let o = operands-of m (fields-behind s after) in
-                  rw e (g .so-far (suc m) ∙ rw (name .field .says, reg .field .says, put-one u o) (put-last (g .us) u o));
+                  rw e (g .so-far (suc m) ∙ rw (operand-read (name .field) (reg .field) .says m) (put-last (g .us) u o));
               gives = λ more.
                   let us = g .us ++ (u ∷ []) in
                   let S = counted (sought .counts) in

@@ -19,7 +19,6 @@ use paper::OUT_OF_ORDER;
 use paper::REAL_ELSEWHERE;
 use paper::TYPES_DIFFER;
 use records::NO_ALLOCATION;
-use records::TwoNumbers;
 
 // One more than the largest value of a field.
 const REGS_END: u32 = layout::MAX_REGS as u32 + 1;
@@ -196,7 +195,10 @@ fn is_earlier(s: &[u8], at: usize, count: usize, names: bool, code: u32) -> bool
     let mut done: usize = 0;
     let mut i = at;
     while done < count {
-        let TwoNumbers::Value(name, register, next) = records::operand_behind(s, i) else {
+        let Number::Value(name, middle) = records::name_behind(s, i) else {
+            return false;
+        };
+        let Number::Value(register, next) = records::allocation_behind(s, middle) else {
             return false;
         };
         if is_shared(names, code, name, register) {

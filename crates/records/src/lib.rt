@@ -536,7 +536,7 @@ pub fn change_line(s: &[u8], at: usize, place: Place, counts: Counts, typed: &[u
 }
 
 // The next two fields of the line, as a name and its allocation.
-pub fn operand_behind(s: &[u8], at: usize) -> TwoNumbers
+fn operand_behind(s: &[u8], at: usize) -> TwoNumbers
     requires { ⌜ Behind (now s) at ⌝ }
     ensures { λ r. ⌜ OperandBehind (now (s .entry)) at r ⌝ }
 {
