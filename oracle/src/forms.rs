@@ -5,7 +5,7 @@ use crate::damage;
 use crate::generate::{generate, long};
 use crate::pairs::answered;
 use crate::random::Random;
-use crate::sheet::{read, Block, Name, Operand, Sheet, Step, SHEET_LIMIT};
+use crate::sheet::{read, Block, Name, Operand, Sheet, Step, BLOCKS_LIMIT, SHEET_LIMIT, STEPS_LIMIT};
 use std::collections::BTreeMap;
 
 const BATCH: u64 = 500;
@@ -13,9 +13,9 @@ const WORDS: usize = 32_768;
 const TYPED: usize = 16;
 const BLOCKS: usize = 272;
 const BLOCK: usize = 11;
-const STEPS: usize = 976;
-const OPERANDS: usize = 5_072;
-const STATES: usize = 21_456;
+const STEPS: usize = BLOCKS + BLOCKS_LIMIT as usize * BLOCK;
+const OPERANDS: usize = STEPS + STEPS_LIMIT * 4;
+const STATES: usize = OPERANDS + STEPS_LIMIT * 16;
 
 // ---- the second implementation
 
@@ -114,14 +114,14 @@ fn step_of(words: &[u16], k: usize) -> Step {
 
 /// The sheet that stands in the words and how many blocks its `F` counts; none where a count goes beyond the room that there is for it.
 fn form(words: &[u16]) -> Option<(Sheet, u32)> {
-    if words.len() < WORDS || words[5] > 64 {
+    if words.len() < WORDS || u32::from(words[5]) > BLOCKS_LIMIT {
         return None;
     }
     let mut blocks = Vec::new();
     for b in 0..words[5] as usize {
         let at = BLOCKS + b * BLOCK;
         let (first, steps, succs) = (words[at] as usize, words[at + 1] as usize, words[at + 2] as usize);
-        if succs > 8 || first + steps > 1_024 {
+        if succs > 8 || first + steps > STEPS_LIMIT {
             return None;
         }
         blocks.push(Block {
