@@ -1,7 +1,9 @@
 -- `columns::passing_function` meets its contract: the count ends at the first field that does not pass; `blocks` has a second test,
 -- that it is not 0.
 use mathlib.Core.Path.{_≡_, sym, refl, _∙_}
+use Prim.Native.Nat.{suc}
 use Rattle.paper.specs.Text.{number-of}
+use Rattle.paper.specs.Limits.{max-regs, max-slots, max-vregs, max-blocks}
 use Rattle.paper.specs.Refusals.{within, function-passing}
 use Rattle.columns.specs.Columns.{Passed}
 use Rattle.columns.proofs.LawsPassing.{shown-first, shown-second, passed-both, passed-on, number-shows, number-passes, some-as}
@@ -30,19 +32,19 @@ number-of-start c = start-of (regs-at (slots-at (vregs-at c)))
 
 -- the fields that pass
 regs : (c : tie.After-known-told) → let a = start-of c .args in let v = c .before .regs .given .0 in
-    Passed number-of (within (a .number) 33) (a .s .now) (a .at) (v .0) (v .1 .0)
+    Passed number-of (within (a .number) (suc max-regs)) (a .s .now) (a .at) (v .0) (v .1 .0)
 regs c = number-passes _ _ (c .before .before .before .passing-number .ensures) (c .before .regs .given .1) .0
 
 slots : (c : tie.After-known-told2) → let a = start-of (regs-at c) .args in let v = c .before .slots .given .0 in
-    Passed number-of (within (a .number) 33) (a .s .now) (regs-at c .before .regs .given .0 .1 .0) (v .0) (v .1 .0)
+    Passed number-of (within (a .number) (suc max-slots)) (a .s .now) (regs-at c .before .regs .given .0 .1 .0) (v .0) (v .1 .0)
 slots c = number-passes _ _ (c .before .before .before .passing-number2 .ensures) (c .before .slots .given .1) .0
 
 vregs : (c : tie.After-known-told3) → let a = start-of (regs-at (slots-at c)) .args in let v = c .before .vregs .given .0 in
-    Passed number-of (within (a .number) 257) (a .s .now) (slots-at c .before .slots .given .0 .1 .0) (v .0) (v .1 .0)
+    Passed number-of (within (a .number) (suc max-vregs)) (a .s .now) (slots-at c .before .slots .given .0 .1 .0) (v .0) (v .1 .0)
 vregs c = number-passes _ _ (c .before .before .before .passing-number3 .ensures) (c .before .vregs .given .1) .0
 
 blocks : (c : tie.After-known-told4) → let a = number-of-start c .args in let v = c .before .blocks2 .given .0 in
-    Passed number-of (within (a .number) 65) (a .s .now) (vregs-at c .before .vregs .given .0 .1 .0) (v .0) (v .1 .0)
+    Passed number-of (within (a .number) (suc max-blocks)) (a .s .now) (vregs-at c .before .vregs .given .0 .1 .0) (v .0) (v .1 .0)
 blocks c = number-passes _ _ (c .before .before .before .passing-number4 .ensures) (c .before .blocks2 .given .1) .0
 
 passing-number-requires : tie.Need-passing-number-requires
