@@ -31,11 +31,11 @@ use Rattle.spelling.specs.Added.{text-append, so-far-records, record-mor
 refused-loaded : {Q : Type 0} {refusal : Refusal} {S : Sheet} → refused refusal ≡ loaded S → Q
 refused-loaded e = let z : _≡_ {A = ℕ} 0 1 = cc in absurd (omega arith)
 
-good-line : {Q : Type 0} (line : ℕ) (o : Lined) (more : Sheet → Reading) (S : Sheet) → carry-on line o more ≡ loaded S
+good-line : {Q : Type 0} (line : ℕ) (field : ℕ → ℕ) (o : Lined) (more : Sheet → Reading) (S : Sheet) → carry-on line field o more ≡ loaded S
     → ((R : Sheet) → o ≡ good R → more R ≡ loaded S → Q) → Q
 unfolding carry-on
-good-line line (good R) more S e k = k R refl e
-good-line line (bad number) more S e k = refused-loaded e
+good-line line field (good R) more S e k = k R refl e
+good-line line field (bad number) more S e k = refused-loaded e
 
 -- a line that was read is a record, added to the sheet so far; none of its conditions holds
 read-as : {Q : Type 0} (so-far : Option Sheet) (l : Bytes) (R : Sheet) → read-line so-far l ≡ good R
@@ -85,7 +85,7 @@ lines-text : (ls : List Bytes) (line : ℕ) (so-far : Option Sheet) (S : Sheet) 
 unfolding read-lines closed-lines text-so-far so-far-records sheet-text
 lines-text [] line so-far S e = ended-with line so-far S e λ q. append-nil (text-so-far so-far) ∙ ap text-so-far q
 lines-text (l ∷ ls) line so-far S e =
-    good-line line (read-line so-far l) (λ R. read-lines (suc line) (some R) ls) S e λ R h f.
+    good-line line _ (read-line so-far l) (λ R. read-lines (suc line) (some R) ls) S e λ R h f.
     sym (append-assoc (text-so-far so-far) (l ++ (line-feed ∷ [])) (closed-lines ls))
     ∙ ap (λ (t : Bytes). t ++ closed-lines ls) (sym (line-text so-far l R h))
     ∙ lines-text ls (suc line) (some R) S f
@@ -127,7 +127,7 @@ lines-again : (rs : List Record) (line : ℕ) (so-far : Option Sheet) (S : Sheet
 unfolding read-lines added ShortRecords
 lines-again [] line so-far S h e = ended-with line so-far S e λ q. q
 lines-again (r ∷ rs) line so-far S h e =
-    good-line line (read-line so-far (line-of r)) (λ R. read-lines (suc line) (some R) (map line-of rs)) S e λ R p f.
+    good-line line _ (read-line so-far (line-of r)) (λ R. read-lines (suc line) (some R) (map line-of rs)) S e λ R p f.
     read-as so-far (line-of r) R p λ q w c here.
     let same : R ≡ add-record (so-far-of so-far) r = here ∙ ap (λ (x : Record). add-record (so-far-of so-far) x) (line-again r q (h .0) w) in
     rw (← same) (lines-again rs (suc line) (some R) S (h .1) f)
