@@ -188,18 +188,39 @@ fn some_sheet(random: &mut Random, seed: u64, index: u64) -> Sheet {
     unreachable!()
 }
 
-/// A sheet of exactly so many bytes or one more, by operations without operands of longer and shorter insts.
+/// Words whose text has so many bytes: of a long sheet the last steps are made operations without operands, and the operations' insts fill
+/// it up.
 fn of_length(length: usize) -> Vec<u16> {
-    let mut words = packed(&long(1, 1));
-    let mut k = words[6] as usize;
-    while k > 0 && sheet_length(&words) > length {
-        k -= 1;
-        words[STEPS + 4 * k..STEPS + 4 * k + 2].copy_from_slice(&[4, 0]);
+    let mut whole = packed(&long(1, 1));
+    let steps = whole[6] as usize;
+    for k in 0..steps {
+        if whole[STEPS + 4 * k] % 8 == 4 {
+            whole[STEPS + 4 * k + 1] = 0;
+        }
     }
-    for k in 0..words[6] as usize {
-        let (short, step) = (length.saturating_sub(sheet_length(&words)), &mut words[STEPS + 4 * k..STEPS + 4 * k + 2]);
-        if step[0] == 4 && short > 0 {
-            step[1] = [0, 10, 100, 1_000, 10_000][short.min(4)];
+    let shortened = |from: usize| {
+        let mut words = whole.clone();
+        for k in from..steps {
+            words[STEPS + 4 * k..STEPS + 4 * k + 2].copy_from_slice(&[4, 0]);
+        }
+        words
+    };
+    let (mut low, mut high) = (0, steps);
+    while low < high {
+        let middle = (low + high + 1) / 2;
+        if sheet_length(&shortened(middle)) <= length {
+            low = middle;
+        } else {
+            high = middle - 1;
+        }
+    }
+    let mut words = shortened(low);
+    let mut short = length.saturating_sub(sheet_length(&words));
+    for k in 0..steps {
+        if words[STEPS + 4 * k] % 8 == 4 {
+            let more = short.min(4);
+            words[STEPS + 4 * k + 1] = [0, 10, 100, 1_000, 10_000][more];
+            short -= more;
         }
     }
     words
