@@ -223,7 +223,11 @@ outcome-text rule sheet before n e = at (too-short report-size before) refl (rea
         → TextOf rule sheet (take n ((outcome rule sheet before) .lent .report))
     at true s o h = apart (rw s at e)
     at false s (refused refusal) h = apart (rw (s, h) at e)
-    at false s (loaded S) h = record { sheet = S; is-read = h; is-text = rw (s, h) (lines (faults-in (entries rule S)) (report-text rule (entries rule S)) (rw (s, h) at e)) }
+    at false s (loaded S) h = record {
+      sheet = S;
+      is-read = h;
+      is-text = rw (s, h) (lines (faults-in (entries rule S)) (report-text rule (entries rule S)) (rw (s, h) at e));
+    }
 
 check-text : {rule : Rule} {sheet : Bytes} {before after : Lent} {r : Answer} → Checked rule sheet before after r
     → (n : ℕ) → (r ≡ Accepted n) ⊎ (r ≡ Faulty n) → TextOf rule sheet (take n (after .report))

@@ -73,7 +73,8 @@ zero-said sheet e = at (read sheet) refl e
     at (refused refusal) h f = let z : _≡_ {A = ℕ} 88 82 = cc in absurd (omega arith)
 
 -- a call leaves it only where the buffers were long enough
-pub zero-left : {size : ℕ} {text : Bytes} {before after : Lent} {n : ℕ} → Stated size text before after n → BeginsZero (take n (after .report)) → BeginsZero text
+pub zero-left : {size : ℕ} {text : Bytes} {before after : Lent} {n : ℕ} → Stated size text before after n
+    → BeginsZero (take n (after .report)) → BeginsZero text
 unfolding text-outcome house-zero
 zero-left {size} {text} {before} {after} {n} c e = at (too-short size before) refl
   where

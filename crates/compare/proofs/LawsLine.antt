@@ -275,7 +275,8 @@ module _ {s : Bytes} {at k : ℕ} (w : Rowing s at k) where
     here : drop k codes-of-lines ≡ getD codes-of-lines k [] ∷ drop (suc k) codes-of-lines
     here = drop-cons codes-of-lines k [] (omega (arith, seven))
 
-    pub row-good : {place : ℕ} → At place ≡ line-place (fits-row s at (getD codes-of-lines k [])) s at → At place ≡ line-place (fault-shaped (line-at s at)) s at
+    pub row-good : {place : ℕ} → At place ≡ line-place (fits-row s at (getD codes-of-lines k [])) s at
+        → At place ≡ line-place (fault-shaped (line-at s at)) s at
     unfolding line-place place-told any-row
     row-good e =
         let feed : Bool = eqb (getD s (line-end s at) 0) line-feed in

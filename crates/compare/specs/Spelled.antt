@@ -257,7 +257,13 @@ lines-judged count faults line (fault-entry l ∷ es) h =
     let q : faults + suc (length (faults-in es)) ≡ suc faults + length (faults-in es) = omega arith in
     rw (line-piece l (lines-text es) (h .0), later-some es, line-shaped l (h .0), lines-judged count (suc faults) (suc line) es (h .1), q)
 lines-judged count faults line (unreached-entry b ∷ es) h =
-    rw (unreached-piece b (lines-text es) (h .0), later-some es, unreached-no-fault b (h .0), unreached-fits b (h .0), lines-judged count faults (suc line) es (h .1))
+    rw (
+      unreached-piece b (lines-text es) (h .0),
+      later-some es,
+      unreached-no-fault b (h .0),
+      unreached-fits b (h .0),
+      lines-judged count faults (suc line) es (h .1),
+    )
 
 -- the header
 

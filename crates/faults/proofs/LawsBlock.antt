@@ -140,7 +140,8 @@ module _ {rule : Rule} {words : List ℕ} {block : ℕ} (C : Checkable rule word
   unfolding block-entries entries-at mark-of
   marked-entries e = at state-of-block refl
     where
-      at : (o : Option State) → state-of-block ≡ o → entries-at rule (sheet-of words) block state-of-block ≡ map fault-entry (block-faults rule (sheet-of words) block)
+      at : (o : Option State) → state-of-block ≡ o
+          → entries-at rule (sheet-of words) block state-of-block ≡ map fault-entry (block-faults rule (sheet-of words) block)
       at none t = absurd (e (C .marks block h ∙ ap mark-of t))
       at (some s) t = ap (entries-at rule (sheet-of words) block) t
 
@@ -153,8 +154,9 @@ module _ {rule : Rule} {words : List ℕ} {block : ℕ} (C : Checkable rule word
       at : (o : Option State) → state-of-block ≡ o → unmarked-at block (getD words (mark-at block) 0) ≡ block-entries rule (sheet-of words) block
       at none t = rw (C .marks block h, t) (sym (unreached-entries rule (sheet-of words) block t))
       at (some s) t =
-          let none : faults-from rule (sheet-of words) block 0 (steps-of (sheet-of words) block) s ≡ [] = sym (reached-faults rule (sheet-of words) block s t) ∙ e in
-          rw (C .marks block h, t) (sym (reached-entries rule (sheet-of words) block s t ∙ ap (map fault-entry) none))
+          let S = sheet-of words in
+          let none : faults-from rule S block 0 (steps-of S block) s ≡ [] = sym (reached-faults rule S block s t) ∙ e in
+          rw (C .marks block h, t) (sym (reached-entries rule S block s t ∙ ap (map fault-entry) none))
 
 -- the lines of a sheet without a fault
 module _ {rule : Rule} {words : List ℕ} (C : Checkable rule words) where

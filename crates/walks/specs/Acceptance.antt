@@ -95,7 +95,9 @@ module _ (S : Sheet) (C : Closed S) where
   walks-pass : Acceptance S → BlocksPass S
   walks-pass E b l s e =
       passes-meet (reference-typed S) (steps-of S b) (λ (w : HouseWalk S b). along (flow House S) w) (meets-of (house-good S .met b s e))
-      (λ w. subst (Passes (reference-typed S) (steps-of S b)) (sym (along-trail S w)) (passes-after (reference-typed S) (trail S w) (steps-of S b) (entry-state House S) (E .passes b w)))
+      (λ w.
+      subst (Passes (reference-typed S) (steps-of S b)) (sym (along-trail S w))
+      (passes-after (reference-typed S) (trail S w) (steps-of S b) (entry-state House S) (E .passes b w)))
       (E .alike b)
 
   module _ (T : Typed S) (ok : BlocksPass S) where

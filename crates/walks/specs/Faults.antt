@@ -165,7 +165,8 @@ module _ (S : Sheet) (C : Closed S) (l : Line) where
         at-place = omega (arith, r .at-place);
         by-walks =
             shown (λ (w : HouseWalk S b). effects House (reference-typed S) (r .earlier) (along (flow House S) w)) (r .step)
-            (meet-of-effects (reference-typed S) (r .earlier) (λ (w : HouseWalk S b). along (flow House S) w) (meets-of S C (house-good S .met b (f .state) (f .holds))))
+            (meet-of-effects (reference-typed S) (r .earlier) (λ (w : HouseWalk S b). along (flow House S) w)
+            (meets-of S C (house-good S .met b (f .state) (f .holds))))
             (l .fault) (r .found);
       }
 

@@ -521,7 +521,8 @@ module _ (S : Sheet) (L : Limited (S .regs) (S .slots) (S .vregs) (S .blocks)) (
     unfolding entries missing-allocations
     entries-small =
         first-of-lists SmallReport (map fault-entry (missing-allocations S)) (find-errors rule S)
-        (let m = fault-entries (missing-allocations S) (missing-lines (S .blocks) 0 (omega arith)) in record { lines = m .small; count = omega (arith, m .few) })
+        (let m = fault-entries (missing-allocations S) (missing-lines (S .blocks) 0 (omega arith)) in
+        record { lines = m .small; count = omega (arith, m .few) })
         λ e. let f = errors-small (map-eq-nil-iff _ .0 e) in record { lines = f .small; count = omega (arith, f .few) }
 
 -- under either rule, of every sheet that is read

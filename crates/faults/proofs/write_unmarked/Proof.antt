@@ -47,8 +47,8 @@ shared-slice-read-if1 c = let s = start-of (c .before .before) in
 
 write-unreached-requires : tie.Need-write-unreached-requires Inv-loop μ-loop
 write-unreached-requires c κs = let l = c .before .before .before .before in
-    let s = start-of l in
-    (omega (arith, s .pre .0 .bounds .blocks), omega (arith, s .pre .0 .bounds .blocks, unreached-short (l .loop .block) (omega (arith, s .pre .0 .bounds .blocks))))
+    let few = start-of l .pre .0 .bounds .blocks in
+    (omega (arith, few), omega (arith, few, unreached-short (l .loop .block) (omega (arith, few))))
 
 add-block : tie.Need-add-block Inv-loop μ-loop
 add-block c = omega (arith, start-of (c .before .before .before) .pre .0 .bounds)
