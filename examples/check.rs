@@ -46,9 +46,9 @@ mod itanropen {
     impl Buffers {
         pub fn new() -> Buffers {
             Buffers {
-                report: vec![0; 33_104],
+                report: vec![0; 34_576],
                 words: vec![0; 32_768],
-                queue: vec![0; 16_385],
+                queue: vec![0; 32_769],
             }
         }
 

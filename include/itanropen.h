@@ -20,9 +20,9 @@ extern "C" {
 /* 1. Sizes. Each is a count of ELEMENTS of the buffer that it is named after, never of bytes: the words are 16 bits wide, so that
  * ITANROPEN_WORDS_COUNT words are 65,536 bytes. A shorter buffer is refused (refusal 1); a longer one is taken whole.
  */
-#define ITANROPEN_REPORT_COUNT ((size_t)33104) /* elements of uint8_t */
+#define ITANROPEN_REPORT_COUNT ((size_t)34576) /* elements of uint8_t */
 #define ITANROPEN_WORDS_COUNT ((size_t)32768)  /* elements of uint16_t */
-#define ITANROPEN_QUEUE_COUNT ((size_t)16385)  /* elements of uint8_t */
+#define ITANROPEN_QUEUE_COUNT ((size_t)32769)  /* elements of uint8_t */
 
 /* The longest sheet, in bytes; a longer one is refused (refusal 2). */
 #define ITANROPEN_SHEET_MOST ((size_t)65536)

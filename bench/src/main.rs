@@ -49,7 +49,7 @@ const USAGE: &str = "usage:
   bench time N SEED CHOICE ROUNDS    times both sides on N functions
   bench agree N SEED CHOICE          compares both sides' answers to N functions
   bench count N SEED CHOICE PART     runs one part once on each function, for a counter of instructions
-CHOICE: timed, functions of 40 to 64 blocks; long, such with sheets of nearly 65,536 bytes
+CHOICE: timed, functions of 60 to 128 blocks; long, such with sheets of nearly 65,536 bytes
 PART: none, clear, load, old, house, read, build or run";
 
 fn main() {

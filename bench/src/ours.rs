@@ -1,8 +1,8 @@
 //! The product's exported function, and the buffers that are lent to it.
 
-pub const REPORT_SIZE: usize = 33_104;
+pub const REPORT_SIZE: usize = 34_576;
 pub const WORDS_SIZE: usize = 32_768;
-pub const QUEUE_SIZE: usize = 16_385;
+pub const QUEUE_SIZE: usize = 32_769;
 
 pub const ACCEPTED: u8 = 0;
 pub const FAULTY: u8 = 1;

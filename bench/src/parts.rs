@@ -10,7 +10,7 @@ use std::time::Instant;
 /// Which functions are timed.
 #[derive(Clone, Copy, PartialEq, Eq)]
 pub enum Choice {
-    /// Of 40 to 64 blocks.
+    /// Of 60 to 128 blocks.
     Timed,
     /// Those whose sheets are nearly as long as a sheet may be.
     Long,

@@ -242,6 +242,7 @@ fn large_limits() -> Vec<Vec<u8>> {
     list.push(sheet(&format!("F 1 1 1 2 0\nB\n{}", "S 0 0\n".repeat(STEPS_LIMIT))));
     list.push(sheet(&format!("F 1 1 1 2 0\nB\n{}", "S 0 0\n".repeat(STEPS_LIMIT + 1))));
     list.push(longest_report());
+    list.extend(most_visits());
     list.push(of_length(SHEET_LIMIT));
     list.push(of_length(SHEET_LIMIT + 1));
     let mut open = of_length(SHEET_LIMIT);
@@ -261,13 +262,52 @@ fn widest(first: &str, each: &str, last: &str) -> Vec<u8> {
     sheet(&format!("{}{}{} {}\n", HEAD, first, format!(" {}", each).repeat(left / (each.len() + 1)), last))
 }
 
-/// One step that defines the last name but one in the last register and all others that use the last name there, in the last block:
-/// the longest lines.
-fn longest_report() -> Vec<u8> {
+/// The longest report that there is: in the last block, the entry, each step uses the last name in the last register, which the first
+/// one gives the last name but one; no walk comes to the other blocks.
+pub fn longest_report() -> Vec<u8> {
     let blocks = "B\n".repeat(BLOCKS_LIMIT as usize);
     let steps = "O <inst> 1 v<vregs-1> <regs-1> 0\n".repeat(STEPS_LIMIT - 1);
-    let first = "O <inst> 0 1 v<vregs-2> <regs-1>\n";
+    let first = "O <inst> 1 v<vregs-1> <regs-1> 1 v<vregs-2> <regs-1>\n";
     sheet(&format!("F <regs> <slots> <vregs> <blocks> <blocks-1>\n{}{}{}", blocks, first, steps))
+}
+
+/// Sheets whose old and whose house run make the most visits that were found. The blocks but a few form a ring, of which the last copies
+/// each cell to the next, so that what a cell holds comes one cell further each time round. Under the old rule an unmarked name, a marked
+/// one and a conflict follow each other through cells that begin Unknown, under the house rule a conflict and Unknown through cells that
+/// begin with a name, each as far behind the one before as the ring allows.
+pub fn most_visits() -> [Vec<u8>; 2] {
+    let (regs, slots) = (REGS_LIMIT, SLOTS_LIMIT);
+    let unknown: String = (0..regs).map(|reg| format!("L {} 0\n", reg)).collect();
+    let old = ring(
+        &format!("F {} {} 2 {} 0\nT 0\n", regs, slots, BLOCKS_LIMIT),
+        &unknown,
+        &["O 0 0 1 v1 0\n", "O 0 0 1 v0 0\n", "C 0 0 v0 v0\nL 0 0\nS 0 1\n"],
+    );
+    let named: String = (1..regs).map(|reg| format!("M {} 0\n", reg)).chain((0..slots - 1).map(|slot| format!("S {} 0\n", slot))).collect();
+    let house = ring(
+        &format!("F {} {} 2 {} 0\n", regs, slots, BLOCKS_LIMIT),
+        &format!("O 0 0 1 v0 0\n{}", named),
+        &["L 0 <slots-1>\nS <slots-1> 1\n", "S <slots-1> 1\nO 0 0 1 v1 0\nM <regs-1> 0\nO 0 0 1 v1 <regs-1>\n"],
+    );
+    [old, house]
+}
+
+/// The entry, a block for each of those that enter the ring, evenly apart, and the ring.
+fn ring(head: &str, entry: &str, starts: &[&str]) -> Vec<u8> {
+    let first = 1 + starts.len();
+    let length = BLOCKS_LIMIT as usize - first;
+    let all: String = (1..first).map(|start| format!(" {}", start)).collect();
+    let mut text = format!("{}B{}\n{}", head, all, entry);
+    for (at, steps) in starts.iter().enumerate() {
+        text += &format!("B {}\n{}", first + at * length / starts.len(), steps);
+    }
+    for block in first..first + length - 1 {
+        text += &format!("B {}\n", block + 1);
+    }
+    let (reg, slot) = (REGS_LIMIT - 1, SLOTS_LIMIT - 1);
+    let slots: String = (0..slot).rev().map(|s| format!("L {} {}\nS {} {}\n", reg, s, s + 1, reg)).collect();
+    let regs: String = (0..reg - 1).rev().map(|r| format!("M {} {}\n", r + 1, r)).collect();
+    sheet(&format!("{}B {}\n{}S 0 {}\n{}", text, first, slots, reg - 1, regs))
 }
 
 /// A good sheet of exactly the given length: long operations behind two short lines, trimmed by their inst, so that no inst falls.

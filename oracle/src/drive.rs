@@ -3,7 +3,7 @@
 use crate::columns::{targets, Target};
 use crate::damage::always;
 use crate::frames::{answers, plain_old_answer, read_frame, write_frame, Answers, Old};
-use crate::generate::{generate, KINDS};
+use crate::generate::{generate, KINDS, MANY};
 use crate::plain::Wrong;
 use crate::sheet::{broken, falls, read};
 use crate::shrink::shrink;
@@ -111,6 +111,8 @@ pub struct Counts {
     named_blocks: usize,
     /// Sheets that are read and in which an inst falls.
     falling: usize,
+    /// Sheets that are read and have many blocks.
+    many: usize,
     /// For each order of `ORDERS`: sheets whose old report changes, sheets whose old entry states do.
     orders: [[usize; 2]; 4],
 }
@@ -170,6 +172,7 @@ impl Counts {
             named: [0; 2],
             named_blocks: 0,
             falling: 0,
+            many: 0,
             orders: [[0; 2]; 4],
         }
     }
@@ -188,6 +191,7 @@ impl Counts {
             return;
         }
         self.falling += falls(sheet) as usize;
+        self.many += read(sheet).map_or(false, |sheet| sheet.blocks.len() >= MANY.0) as usize;
         let mut accepted = [false; 2];
         for rule in 0..2 {
             let kinds = fault_kinds(&answers[rule]);
@@ -249,6 +253,7 @@ impl Counts {
         println!("accepted by the house rule alone: {}", self.house_only);
         println!("house reports that name an unreached block: {} accepted, {} faulty; {} blocks", self.named[0], self.named[1], self.named_blocks);
         println!("read, though an inst falls: {}", self.falling);
+        println!("read, with {} blocks or more: {}", MANY.0, self.many);
         println!("old answers that change with the order of the run:");
         for (at, (name, _)) in ORDERS.iter().enumerate() {
             println!("  {}: {} reports, {} entry states", name, self.orders[at][0], self.orders[at][1]);

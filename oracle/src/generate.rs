@@ -1,5 +1,5 @@
-//! The generator of well-formed sheets: small, tangled, knotted, ordered, large, allocated, repaired, allocated with one wrong step, and
-//! with many unreached blocks. While it writes steps it keeps a guess of the cells, so that checks often pass.
+//! The generator of well-formed sheets: small, tangled, knotted, ordered, large, allocated, repaired, allocated with one wrong step, with
+//! many unreached blocks, and with many blocks. While it writes steps it keeps a guess of the cells, so that checks often pass.
 
 use crate::columns::columns;
 use crate::damage;
@@ -11,11 +11,12 @@ use crate::sheet::{
     read, Block, Name, Operand, Sheet, Step, BLOCKS_LIMIT, INST_LIMIT, OPERANDS_LIMIT, REGS_LIMIT, SLOTS_LIMIT, STEPS_LIMIT, SUCCS_LIMIT, VREGS_LIMIT,
 };
 
-pub const KINDS: [&str; 13] = [
+pub const KINDS: [&str; 14] = [
     "small", "tangled", "knotted", "ordered", "large", "allocated", "repaired", "wrong-step",
     "limits", "damaged", "several", "columns", "unreached",
+    "many",
 ];
-const WEIGHTS: [usize; 13] = [210, 78, 88, 70, 4, 53, 70, 79, 38, 100, 100, 110, 220];
+const WEIGHTS: [usize; 14] = [210, 78, 88, 70, 4, 53, 70, 79, 38, 100, 100, 110, 220, 110];
 
 /// The sheet of a seed and an index, with its kind.
 pub fn generate(seed: u64, index: u64) -> (usize, Vec<u8>) {
@@ -31,6 +32,7 @@ pub fn generate(seed: u64, index: u64) -> (usize, Vec<u8>) {
         "repaired" => repaired(random),
         "wrong-step" => wrong_step(random),
         "unreached" => unreached(random),
+        "many" => many(random),
         "limits" => return (kind, damage::limits(random)),
         "damaged" => return (kind, damage::damaged(random)),
         "several" => return (kind, damage::several(random)),
@@ -142,6 +144,9 @@ const TANGLED: Size = Size {
     acts: 1,
 };
 
+/// More than half as many blocks as there may be.
+pub const MANY: (usize, usize) = (BLOCKS_LIMIT as usize / 2 + 1, BLOCKS_LIMIT as usize);
+
 /// The names are as many as their home slots.
 const ALLOCATED: Size = Size {
     regs: (1, 5),
@@ -157,7 +162,7 @@ const TIMED: Size = Size {
     regs: (8, REGS_LIMIT as usize),
     slots: (8, SLOTS_LIMIT as usize),
     names: (8, 64),
-    blocks: (40, BLOCKS_LIMIT as usize),
+    blocks: (60, BLOCKS_LIMIT as usize),
     succs: &[3, 40, 45, 12],
     acts: 8,
 };
@@ -192,9 +197,26 @@ fn tangled_of(random: &mut Random, size: &Size) -> Sheet {
     sheet
 }
 
+/// Many blocks: as tangled or as knotted, or a correct allocation, with or without a wrong step.
+pub fn many(random: &mut Random) -> Sheet {
+    match random.below(5) {
+        0 | 1 => tangled_of(random, &Size { blocks: MANY, ..TANGLED }),
+        2 => knotted_of(random, MANY),
+        3 => allocated_of(random, &Size { blocks: MANY, ..ALLOCATED }),
+        _ => {
+            let sheet = allocated_of(random, &Size { blocks: MANY, ..ALLOCATED });
+            changed(random, sheet)
+        }
+    }
+}
+
 /// Blocks of short phrases on one or two slots: names are set marked and unmarked, passed on, copied,
 /// forgotten and asked for, so that what a block hands on depends on when it is visited.
 pub fn knotted(random: &mut Random) -> Sheet {
+    knotted_of(random, (3, 11))
+}
+
+fn knotted_of(random: &mut Random, blocks: (usize, usize)) -> Sheet {
     let mut sheet = Sheet {
         regs: random.weighted(&[0, 70, 30]) as u32,
         slots: random.weighted(&[0, 70, 30]) as u32,
@@ -203,7 +225,7 @@ pub fn knotted(random: &mut Random) -> Sheet {
     };
     let chance = *random.pick(&[60, 100, 100]);
     sheet.reftyped = (0..sheet.vregs).filter(|_| random.percent(chance)).collect();
-    let blocks = random.within(3, 11);
+    let blocks = some(random, blocks);
     graph(random, &mut sheet, blocks, &[1, 20, 42, 25, 10, 2]);
     let asked = *random.pick(&[20, 50]);
     for block in 0..blocks {
@@ -694,11 +716,12 @@ pub fn wrong_step(random: &mut Random) -> Sheet {
 
 /// A sheet of another kind with edges cut, so that walks come to few of its blocks. Of the others many lose their steps.
 pub fn unreached(random: &mut Random) -> Sheet {
-    let mut sheet = match random.below(5) {
+    let mut sheet = match random.below(6) {
         0 => small(random),
         1 => tangled(random),
         2 => allocated(random),
         3 => wrong_step(random),
+        4 => many(random),
         _ => repaired(random),
     };
     let (cut, emptied) = (*random.pick(&[20, 50, 80, 100]), *random.pick(&[0, 30, 70]));
@@ -793,7 +816,7 @@ pub fn long(seed: u64, index: u64) -> Sheet {
 fn wide_operations(random: &mut Random) -> Vec<Step> {
     let mut known: Vec<Operand> = Vec::new();
     let mut steps = Vec::new();
-    for _ in 0..random.within(8, 18) {
+    for _ in 0..random.within(4, 10) {
         let mut uses = known.clone();
         let most = random.within(0, OPERANDS_LIMIT);
         while uses.len() > most {
@@ -813,7 +836,7 @@ fn wide_operations(random: &mut Random) -> Vec<Step> {
     steps
 }
 
-/// Are 40 blocks or more reached, is the sheet not refused, and does no step lack an allocation? At one
+/// Are 60 blocks or more reached, is the sheet not refused, and does no step lack an allocation? At one
 /// that does either side would stop before it checks.
 fn is_timed(sheet: &Sheet) -> bool {
     let reached = crate::plain::reached(sheet).into_iter().filter(|reached| *reached).count();

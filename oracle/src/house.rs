@@ -4,6 +4,7 @@
 use crate::plain::{find_faults, forget_marked, meet_states, Cell, State, Wrong};
 use crate::report::Fault;
 use crate::sheet::{Name, Sheet, Step};
+use std::collections::VecDeque;
 
 fn meet(a: Cell, b: Cell, wrong: Wrong) -> Cell {
     match (a, b) {
@@ -53,6 +54,17 @@ pub fn house_effect(sheet: &Sheet, step: &Step, state: &mut State, wrong: Wrong)
     }
 }
 
+/// A state comes to a block: does it change the block's own?
+fn offered(state: &mut Option<State>, out: &State, wrong: Wrong) -> bool {
+    let met = match state {
+        Some(state) => meet_states(state, out, |a, b| meet(a, b, wrong)),
+        None => out.clone(),
+    };
+    let changed = state.as_ref() != Some(&met);
+    *state = Some(met);
+    changed
+}
+
 /// Each block's entry state, none for a block that no walk comes to.
 fn run(sheet: &Sheet, wrong: Wrong) -> Vec<Option<State>> {
     let mut states: Vec<Option<State>> = vec![None; sheet.blocks.len()];
@@ -69,18 +81,33 @@ fn run(sheet: &Sheet, wrong: Wrong) -> Vec<Option<State>> {
                 house_effect(sheet, step, &mut out, wrong);
             }
             for &succ in &sheet.blocks[block].succs {
-                let met = match &states[succ as usize] {
-                    Some(state) => meet_states(state, &out, |a, b| meet(a, b, wrong)),
-                    None => out.clone(),
-                };
-                if states[succ as usize].as_ref() != Some(&met) {
-                    states[succ as usize] = Some(met);
-                    changed = true;
-                }
+                changed |= offered(&mut states[succ as usize], &out, wrong);
             }
         }
     }
     states
+}
+
+/// How many blocks document 01's house run visits.
+pub fn visits(sheet: &Sheet) -> usize {
+    let mut states: Vec<Option<State>> = vec![None; sheet.blocks.len()];
+    states[sheet.entry as usize] = Some(State::entry(sheet, Cell::Unknown));
+    let mut queue = VecDeque::new();
+    queue.push_back(sheet.entry as usize);
+    let mut visits = 0;
+    while let Some(block) = queue.pop_front() {
+        visits += 1;
+        let mut out = states[block].clone().unwrap();
+        for step in &sheet.blocks[block].steps {
+            house_effect(sheet, step, &mut out, Wrong::Nothing);
+        }
+        for &succ in &sheet.blocks[block].succs {
+            if offered(&mut states[succ as usize], &out, Wrong::Nothing) {
+                queue.push_back(succ as usize);
+            }
+        }
+    }
+    visits
 }
 
 /// The house rule's faults, and the entry states with their visited marks. A block that no walk comes to is not checked.

@@ -46,6 +46,7 @@ const USAGE: &str = "usage:
   oracle seals N SEED COMMAND        compares COMMAND, which verifies seals, on N texts
   oracle forms N SEED COMMAND        compares COMMAND, which writes loaded words, on N lists of words
   oracle self-test N SEED            the tests of the tests
+  oracle extremes                    the longest report and the runs with the most visits, under both rules
   oracle sheet SEED INDEX            writes one generated sheet
   oracle timed SEED INDEX            writes one function that bench/ times
   oracle long SEED INDEX             writes one whose sheet is nearly 65,536 bytes long
@@ -77,6 +78,7 @@ fn main() {
         ["self-test", sheets, seed] => {
             number(sheets).and_then(|n| selftest::run(n, number(seed)?))
         }
+        ["extremes"] => selftest::extremes(),
         ["store", folder, sheets, seed] => {
             number(sheets).and_then(|n| store::store(folder, n, number(seed)?))
         }

@@ -2,10 +2,11 @@
 //! oracle itself, and the driver against each slip.
 
 use crate::columns::{at_every_target, by_trying};
-use crate::damage::boundaries;
+use crate::damage::{boundaries, longest_report, most_visits};
 use crate::drive::{compare, print_difference, refused_at, shrink_difference, visible, Counts, Plan, Product};
 use crate::frames::{answers, Old};
 use crate::generate::generate;
+use crate::house;
 use crate::old;
 use crate::plain::{missing, old_run, Wrong, WRONGS};
 use crate::sheet::read;
@@ -164,7 +165,7 @@ const WHOLE_READINGS: &[(&str, [usize; 3])] = &[
     ("/", [3, 1, 1]),
     ("F 0 0 0 0 0/B/", [5, 1, 5]),
     ("F 0 0 0 1 1/B/", [5, 1, 6]),
-    ("F 0 0 0 65 65/B/", [5, 1, 5]),
+    ("F 0 0 0 129 129/B/", [5, 1, 5]),
     ("F 33 33 0 1 9/B/", [5, 1, 2]),
     ("F 32 32 257 0 0/B/", [5, 1, 4]),
     ("F 0 0 0 1 0 0/B/", [3, 1, 7]),
@@ -272,11 +273,30 @@ pub fn as_text(line: &str) -> Vec<u8> {
 
 pub fn run(sheets: u64, seed: u64) -> Result<(), String> {
     known()?;
+    extremes()?;
     plain_and_rust(sheets, seed)?;
     itself(sheets / 10, seed)?;
     generated_fields(sheets / 10, seed)?;
     for (name, _) in WRONGS.iter() {
         slip(name, sheets, seed)?;
+    }
+    Ok(())
+}
+
+/// The longest report and the runs with the most visits, under both rules: how long they are, and that the visits stay within document
+/// 01's counts.
+pub fn extremes() -> Result<(), String> {
+    let given = answers(&longest_report(), Old::Rust, Wrong::Nothing);
+    println!("the longest report: {} bytes old, {} bytes house", given[0].len(), given[1].len());
+    for bytes in &most_visits() {
+        let sheet = read(bytes).map_err(|_| "a sheet of many visits is refused".to_string())?;
+        let (blocks, cells) = (sheet.blocks.len(), (sheet.regs + sheet.slots) as usize);
+        let bounds = [1 + blocks * 4 * cells, blocks * (1 + 3 * cells)];
+        let visits = [old::check(&sheet, true).visits, house::visits(&sheet)];
+        println!("most visits: {} of {} old, {} of {} house", visits[0], bounds[0], visits[1], bounds[1]);
+        if visits[0] != old_run(&sheet, Wrong::Nothing).1 || visits[0] > bounds[0] || visits[1] > bounds[1] {
+            return Err("the plain old run visits other blocks, or more than the bound".to_string());
+        }
     }
     Ok(())
 }

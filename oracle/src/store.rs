@@ -1,7 +1,7 @@
 //! The stored lists: small sheets chosen so that every feature of an answer occurs a few times.
 
 use crate::columns::at_every_target;
-use crate::damage::boundaries;
+use crate::damage::{boundaries, most_visits};
 use crate::drive::{fault_kinds, refused_as, refused_at, sensitive, ORDERS};
 use crate::frames::{answers, read_frame, write_frame, Answers, Old, STORED};
 use crate::generate::{generate, KINDS};
@@ -128,6 +128,9 @@ fn answer_candidates(sheets: u64, seed: u64) -> Vec<Candidate> {
         let report = answers(&sheet, Old::Plain, Wrong::Nothing)[1].len();
         if report > LONG_REPORT {
             features.push(("a long report".to_string(), 1));
+        }
+        if most_visits().contains(&sheet) {
+            features.push(("the most visits".to_string(), 2));
         }
         list.push(Candidate { sheet, features });
     }

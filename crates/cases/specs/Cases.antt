@@ -205,11 +205,13 @@ rows =
     ∷ sheet Old accepted-loop ("R old 0" ∷ [])
     ∷ sheet House accepted-loop ("R house 0" ∷ [])
     ∷ sheet House two-names ("R house 1" ∷ "E 3 0 2 7 s0 - -" ∷ [])
-    -- refusals: in a line the lowest number
+    -- refusals: in a line the lowest number; document 02, A7: 128 blocks are within the limit, 129 are not
     ∷ sheet House [] ("X 2 0 0" ∷ [])
     ∷ sheet House ("B" ∷ []) ("X 4 1 0" ∷ [])
     ∷ sheet House ("F 2 2 2 1 0" ∷ []) ("X 4 2 0" ∷ [])
     ∷ sheet House ("F 2 2 2 1 1" ∷ []) ("X 5 1 6" ∷ [])
+    ∷ sheet House ("F 0 0 0 128 127" ∷ []) ("X 4 2 0" ∷ [])
+    ∷ sheet House ("F 0 0 0 129 0" ∷ []) ("X 5 1 5" ∷ [])
     ∷ sheet House (behind "") ("X 3 3 1" ∷ [])
     ∷ sheet House (behind "T v0") ("X 3 3 2" ∷ [])
     ∷ sheet House (behind "F 0 0 0 0 0") ("X 4 3 0" ∷ [])

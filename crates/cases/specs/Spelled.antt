@@ -14,11 +14,18 @@ use Rattle.paper.specs.declared.Rule.the-variants.{Old, House}
 use Rattle.paper.specs.declared.Answer.the-variants.{Refused}
 
 -- the longest lines by name, and document 02's figure
-report-size-by-figures : report-size ≡ max-steps * 32 + 16 + 64 * 5
+report-size-by-figures : report-size ≡ max-steps * 33 + 16 + 128 * 6
 report-size-by-figures = refl
 
-report-size-is : report-size ≡ 33104
+report-size-is : report-size ≡ 34576
 report-size-is = refl
+
+-- what is published of the scratch: 65,536 bytes of words, and a byte for each visit of the old run at its bound
+words-size-is : 2 * words-size ≡ 65536
+words-size-is = refl
+
+queue-size-is : queue-size ≡ 32769
+queue-size-is = refl
 
 -- letters
 letters-as-before : (letter-s ∷ letter-E ∷ letter-R ∷ letter-X ∷ []) ≡ (115 ∷ 69 ∷ 82 ∷ 88 ∷ [])

@@ -1,7 +1,7 @@
 -- Where everything stands in the lent words: a header, the typed names, the blocks, the steps, the steps' operands, the blocks'
 -- states, and a mark for each block. Every place is computed from the limits, so that none is searched for.
 use mathlib.Core.List.{List, [], _∷_}
-use Prim.Native.Nat.{ℕ, _+_, _*_, _-_, _≤_}
+use Prim.Native.Nat.{ℕ, _+_, _*_, _≤_}
 use native.Mathlib.Omega.{arith}
 use Rattle.paper.specs.Limits.{max-regs, max-vregs, max-blocks, max-succs, max-operands, max-steps, words-size}
 
@@ -113,9 +113,9 @@ mark-at b = mark-base + b
 abbrev pub run-words : ℕ
 run-words = mark-base + max-blocks
 
--- the published size has room for them, and would have for 128 blocks with 16 argument cells in each state
+-- the published size has room for them, and would have for 16 argument cells in each state
 pub published : run-words ≤ words-size
 published = omega arith
 
-pub published-later : run-words + (128 - max-blocks) * (block-words + state-words + 1) + 128 * 16 ≤ words-size
+pub published-later : run-words + max-blocks * 16 ≤ words-size
 published-later = omega arith

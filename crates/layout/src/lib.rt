@@ -10,7 +10,7 @@ pub const MAX_SLOTS: usize = 32;
 // Virtual names.
 pub const MAX_VREGS: usize = 256;
 
-pub const MAX_BLOCKS: usize = 64;
+pub const MAX_BLOCKS: usize = 128;
 
 // Successors of a block.
 pub const MAX_SUCCS: usize = 8;
@@ -28,11 +28,11 @@ pub const MAX_STEPS: usize = 1024;
 pub const MAX_SHEET: usize = 65536;
 
 // Bytes of a fault's line, of the header, and of an unreached block's line.
-pub const LONGEST_FAULT_LINE: usize = 32;
+pub const LONGEST_FAULT_LINE: usize = 33;
 
 pub const LONGEST_HEADER: usize = 16;
 
-pub const LONGEST_UNREACHED_LINE: usize = 5;
+pub const LONGEST_UNREACHED_LINE: usize = 6;
 
 // The report: a fault's line for each step, the header, and a line for each block.
 pub const REPORT_SIZE: usize = MAX_STEPS * LONGEST_FAULT_LINE
@@ -44,7 +44,7 @@ pub const SEAL_SIZE: usize = 11;
 
 pub const SEALED_SIZE: usize = REPORT_SIZE + SEAL_SIZE;
 
-// The words: those of the layout below, and room for 128 blocks and argument cells.
+// The words: those of the layout below, and room for argument cells.
 pub const WORDS_SIZE: usize = 32768;
 
 // The queue: a byte for every visit that the old run can make.

@@ -1,7 +1,7 @@
 -- Every limit of document 01 and the sizes of the lent buffers, each under one name.
 use Prim.Native.Nat.{ℕ, _+_, _*_}
 
--- "regs 0 to 32, slots 0 to 32, vregs 0 to 256, blocks 1 to 64"
+-- "regs 0 to 32, slots 0 to 32, vregs 0 to 256", and, document 02, A7, blocks 1 to 128: "Raise the limit to 128"
 abbrev pub max-regs : ℕ
 max-regs = 32
 
@@ -12,7 +12,7 @@ abbrev pub max-vregs : ℕ
 max-vregs = 256
 
 abbrev pub max-blocks : ℕ
-max-blocks = 64
+max-blocks = 128
 
 -- "0 to 8 successors"
 abbrev pub max-succs : ℕ
@@ -33,16 +33,16 @@ max-steps = 1024
 abbrev pub max-sheet : ℕ
 max-sheet = 65536
 
--- "The longest line is 32 bytes": a fault's line for each step, 16 bytes for the header, and, document 02, A5, an `N` line for each
--- block: "The report buffer must now hold 33,104 bytes"
+-- document 02, A7: "An E line may now take 33 bytes and an `N` line 6, so the report needs 1,024 x 33 + 16 + 128 x 6 = 34,576 bytes":
+-- a fault's line for each step, 16 bytes for the header, and an `N` line for each block
 abbrev pub longest-fault-line : ℕ
-longest-fault-line = 32
+longest-fault-line = 33
 
 abbrev pub longest-header : ℕ
 longest-header = 16
 
 abbrev pub longest-unreached-line : ℕ
-longest-unreached-line = 5
+longest-unreached-line = 6
 
 abbrev pub report-size : ℕ
 report-size = max-steps * longest-fault-line + longest-header + max-blocks * longest-unreached-line

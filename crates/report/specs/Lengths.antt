@@ -66,7 +66,7 @@ pub record ShortFields (f : FaultFields) : Type 0 where
   pub expected : length (field-text (f .expected)) ≤ 4
   pub actual : length (field-text (f .actual)) ≤ 4
 
--- "The longest line is 32 bytes"
+-- "An E line may now take 33 bytes"
 pub line-short : (p : Position) (f : FaultFields) → PositionWithin p → ShortFields f → length (fields-line p f) ≤ longest-fault-line
 unfolding fields-line field-texts
 line-short p f within s =
@@ -83,17 +83,17 @@ line-short p f within s =
       behind y (z ∷ []),
       behind z [],
       behind-none,
-      length-two (p .block) (omega arith),
+      length-three (p .block) (omega arith),
       length-four (p .place) (omega arith),
       length-digits (p .inst),
       length-one (f .kind) (s .kind),
       s,
     )
 
--- "an `N` line": five bytes for a block of two digits
+-- "an `N` line 6": six bytes for a block of three digits
 pub unreached-length : (block : ℕ) → length (unreached-text block) ≡ 3 + length (digits block)
 unfolding unreached-text
 unreached-length block = omega (arith, behind (digits block) [], behind-none)
 
 pub unreached-short : (block : ℕ) → block < max-blocks → length (unreached-text block) ≤ longest-unreached-line
-unreached-short block h = omega (arith, unreached-length block, length-two block (omega arith))
+unreached-short block h = omega (arith, unreached-length block, length-three block (omega arith))

@@ -8,7 +8,6 @@ use lib.ListN.{length, getD, replicate}
 use Rattle.lists.specs.Sets.{Wrote}
 use Rattle.paper.specs.Text.{Bytes, Name}
 use Rattle.paper.specs.Sheet.{Sheet}
-use Rattle.paper.specs.Limits.{report-size}
 use Rattle.paper.specs.Report.{by-block, names-lines, missing-allocations}
 use Rattle.paper.specs.Answer.{too-short, laid, zeros}
 use Rattle.paper.specs.declared.Refusal.{Refusal}
@@ -28,7 +27,7 @@ use Rattle.checker.specs.Checked.{lent, Stated}
 use Rattle.checker.proofs.Laws.{loads-sheet, refuses-sheet}
 use Rattle.checker.proofs.Texts.{text-left}
 use Rattle.states.specs.EntryStates.{block-text, unless-missing, states-after, entry-states}
-use Rattle.states.specs.Stated.{longest-text, Written, HoldsStates}
+use Rattle.states.specs.Stated.{longest-text, states-size, Written, HoldsStates}
 
 -- the text of a sheet
 
@@ -85,7 +84,7 @@ pub written-none : {text : Bytes} {out words queue words′ : List ℕ} → text
 unfolding laid
 written-none e w = rw e (record { length-is = refl; out-is = refl; same-words = w; same-queue = refl; most = omega arith })
 
-pub written-text : {text xs : Bytes} {out words queue out′ words′ queue′ : List ℕ} {r : ℕ} → text ≡ xs → Wrote out 0 xs out′ r → r ≤ longest-text → report-size ≤ length out
+pub written-text : {text xs : Bytes} {out words queue out′ words′ queue′ : List ℕ} {r : ℕ} → text ≡ xs → Wrote out 0 xs out′ r → r ≤ longest-text → states-size ≤ length out
     → length words′ ≡ length words → length queue′ ≡ length queue → Written text out words queue out′ words′ queue′ r
 written-text e w h fits same-words same-queue = rw e (record {
   length-is = omega (arith, w .next);
@@ -99,6 +98,6 @@ written-text e w h fits same-words same-queue = rw e (record {
 
 pub stated : {text : Bytes} {out words queue out′ words₁ queue₁ words′ queue′ : List ℕ} {r : ℕ}
     → Written text out words queue out′ words₁ queue₁ r → words′ ≡ replicate (length words₁) 0 → queue′ ≡ replicate (length queue₁) 0
-    → too-short report-size (lent out words queue) ≡ false → Stated report-size text (lent out words queue) (lent out′ words′ queue′) r
+    → too-short states-size (lent out words queue) ≡ false → Stated states-size text (lent out words queue) (lent out′ words′ queue′) r
 unfolding zeros
 stated p w q e = text-left e (p .length-is) (rw (w, q, p .same-words, p .same-queue, p .out-is))

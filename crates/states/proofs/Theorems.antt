@@ -8,7 +8,6 @@ use Prim.Native.Nat.{ℕ, zero, suc, _+_, _<_}
 use native.Mathlib.Omega.{arith}
 use lib.ListN.{take}
 use Rattle.paper.specs.Text.{Bytes, digits}
-use Rattle.paper.specs.Limits.{report-size}
 use Rattle.paper.specs.Sheet.{Sheet}
 use Rattle.paper.specs.Steps.{State, unreached-state}
 use Rattle.paper.specs.Runs.{flow, analysis, checked-from}
@@ -21,6 +20,7 @@ use Rattle.walks.specs.Choices.{some-not-none}
 use Rattle.walks.specs.Theorems.{read-sheet, meet-unique}
 use Rattle.checker.specs.Checked.{Stated}
 use Rattle.checker.proofs.Texts.{text-left-by}
+use Rattle.states.specs.Stated.{states-size}
 use Rattle.states.specs.EntryStates.{visited-text, state-line, block-text, unless-missing, states-after, entry-states}
 
 -- blocks with the same lines have the same text
@@ -78,6 +78,6 @@ module _ (bytes : Bytes) (S : Sheet) (h : read bytes ≡ loaded S) where
 
 -- the call
 pub entry-states-meets : (bytes : Bytes) {before after : Lent} {n : ℕ} (S : Sheet) (h : read bytes ≡ loaded S)
-    → Stated report-size (entry-states House bytes) before after n → too-short report-size before ≡ false
+    → Stated states-size (entry-states House bytes) before after n → too-short states-size before ≡ false
     → missing-allocations S ≡ [] → (line : ℕ → Bytes) → LinesOfMeets S line → take n (after .report) ≡ by-block line 0 (S .blocks)
 entry-states-meets bytes S h c long m line L = text-left-by c long ∙ states-are-meets bytes S h m line L

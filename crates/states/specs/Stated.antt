@@ -6,7 +6,7 @@ use Prim.Native.Nat.{ℕ, _+_, _*_, _≤_, _<_}
 use lib.ListN.{length, getD}
 use Rattle.lists.specs.Region.{region}
 use Rattle.paper.specs.Text.{Bytes, tab, digits}
-use Rattle.paper.specs.Limits.{max-regs, max-slots, max-blocks}
+use Rattle.paper.specs.Limits.{max-regs, max-slots, max-blocks, report-size}
 use Rattle.paper.specs.Runs.{analysis, checked-from}
 use Rattle.paper.specs.Answer.{answer, written, laid}
 use Rattle.paper.specs.declared.Rule.{Rule}
@@ -19,13 +19,12 @@ use Rattle.states.specs.EntryStates.{cell-text, letter-D, entry-states}
 use Rattle.states.specs.declared.Part.{Part}
 use Rattle.states.specs.declared.Part.the-variants.{Answer, States}
 
--- how long the text can get: the longest cell is `v255*`, the longest head `D`, two digits and a mark with their tabs. The
--- report's size has room for all.
+-- how long the text can get: the longest cell is `v255*`, the longest head `D`, three digits and a mark with their tabs
 abbrev pub longest-cell : ℕ
 longest-cell = 5
 
 abbrev pub longest-head : ℕ
-longest-head = 6
+longest-head = 7
 
 abbrev pub longest-line : ℕ
 longest-line = longest-head + (1 + longest-cell) * (max-regs + max-slots) + 1
@@ -33,10 +32,19 @@ longest-line = longest-head + (1 + longest-cell) * (max-regs + max-slots) + 1
 abbrev pub longest-text : ℕ
 longest-text = longest-line * max-blocks
 
+-- what its buffer must hold: room for 16 cells more in each state, which document 02, A11, adds
+abbrev pub states-size : ℕ
+states-size = longest-text + (1 + longest-cell) * 16 * max-blocks
+
 -- what is compared of a sheet
 unfoldable pub part-text : Part → Rule → Bytes → Bytes
 part-text Answer rule sheet = written (answer rule sheet)
 part-text States rule sheet = entry-states rule sheet
+
+-- and what its buffer must hold
+unfoldable pub part-size : Part → ℕ
+part-size Answer = report-size
+part-size States = states-size
 
 -- the parts
 

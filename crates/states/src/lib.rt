@@ -6,7 +6,7 @@ ghost use Prim.Native.Nat.{_+_, _*_, _≤_, _<_};
 ghost use lib.ListN.{length, getD};
 ghost use Rattle.lists.specs.Sets.{Wrote};
 ghost use Rattle.paper.specs.Text.{tab};
-ghost use Rattle.paper.specs.Limits.{max-blocks, report-size, words-size, queue-size};
+ghost use Rattle.paper.specs.Limits.{max-blocks, words-size, queue-size};
 ghost use Rattle.paper.specs.Cells as paper;
 ghost use Rattle.paper.specs.Steps as paper-steps;
 ghost use Rattle.paper.specs.Report.{by-block};
@@ -16,18 +16,29 @@ ghost use Rattle.loaded.specs.Loaded.{sheet-of};
 ghost use Rattle.tables.specs.Table.{mark-of};
 ghost use Rattle.checker.specs.Checked.{lent, Stated};
 ghost use Rattle.states.specs.EntryStates as text;
-ghost use Rattle.states.specs.Stated.{part-text, Written, HoldsStates, row-text, head-text, longest-cell, longest-head, longest-line, longest-text};
+ghost use Rattle.states.specs.Stated.{part-text, part-size, Written, HoldsStates, row-text, head-text, longest-cell, longest-head, longest-line, longest-text, states-size};
 use cells::KIND;
 use cells::KINDS;
 use cells::MARK;
 use faults::Missing;
 use layout::MARK_BASE;
-use layout::REPORT_SIZE;
+use layout::MAX_BLOCKS;
+use layout::MAX_REGS;
+use layout::MAX_SLOTS;
 use layout::ROW_WORDS;
 use layout::STATE_BASE;
 use layout::STATE_WORDS;
 use paper::Rule;
 use sheet::Loading;
+
+// Bytes of a cell and of a line's head, each with its tabs.
+const CELL_SIZE: usize = 6;
+
+const HEAD_SIZE: usize = 7;
+
+// The text of entry states: a line for each block, and in each room for 16 argument cells.
+pub const STATES_SIZE: usize = MAX_BLOCKS
+    * (HEAD_SIZE + CELL_SIZE * (MAX_REGS + MAX_SLOTS + 16) + 1);
 
 // What is compared of a sheet: what a program writes of its answer, or its entry states.
 pub enum Part {
@@ -114,7 +125,7 @@ fn write_block(rule: Rule, words: &[u16], out: &mut [u8], at: usize, b: usize) -
 
 // The lines of all blocks.
 fn write_blocks(rule: Rule, words: &[u16], out: &mut [u8]) -> usize
-    requires { ⌜ HoldsStates rule (now words) × (report-size ≤ length (now out)) ⌝ }
+    requires { ⌜ HoldsStates rule (now words) × (states-size ≤ length (now out)) ⌝ }
     ensures { λ r. ⌜ Wrote (now (out .entry)) 0 (by-block (text.block-text rule (sheet-of (now (words .entry)))) 0 (getD (now (words .entry)) blocks-word 0)) (now (out .exit)) r × (r ≤ longest-text) ⌝ }
 {
     let blocks = loaded::blocks(words);
@@ -135,7 +146,7 @@ fn write_states(
     words: &mut [u16],
     queue: &mut [u8],
 ) -> usize
-    requires { ⌜ (report-size ≤ length (now out)) × (words-size ≤ length (now words)) × (queue-size ≤ length (now queue)) ⌝ }
+    requires { ⌜ (states-size ≤ length (now out)) × (words-size ≤ length (now words)) × (queue-size ≤ length (now queue)) ⌝ }
     ensures { λ r. ⌜ Written (text.entry-states rule (now (sheet .entry))) (now (out .entry)) (now (words .entry)) (now (queue .entry)) (now (out .exit)) (now (words .exit)) (now (queue .exit)) r ⌝ }
 {
     let loading = sheet::load(sheet, words);
@@ -151,7 +162,8 @@ fn write_states(
 }
 
 // The sheet's entry states at the start of `out`; the length of that text, which is empty for a sheet that is refused or lacks an
-// allocation. Buffers shorter than `check` asks for are left as they are, and the length is 0; else the scratch is left all zero.
+// allocation. Where `out` is shorter than STATES_SIZE, or the scratch than `check` asks for, all buffers stay as they are and the length
+// is 0; else the scratch is left all zero.
 pub fn entry_states(
     rule: Rule,
     sheet: &[u8],
@@ -159,9 +171,9 @@ pub fn entry_states(
     words: &mut [u16],
     queue: &mut [u8],
 ) -> usize
-    ensures { λ r. ⌜ Stated report-size (text.entry-states rule (now (sheet .entry))) (lent (now (out .entry)) (now (words .entry)) (now (queue .entry))) (lent (now (out .exit)) (now (words .exit)) (now (queue .exit))) r × (r ≤ longest-text) ⌝ }
+    ensures { λ r. ⌜ Stated states-size (text.entry-states rule (now (sheet .entry))) (lent (now (out .entry)) (now (words .entry)) (now (queue .entry))) (lent (now (out .exit)) (now (words .exit)) (now (queue .exit))) r × (r ≤ longest-text) ⌝ }
 {
-    if checker::too_short(REPORT_SIZE, out, words, queue) {
+    if checker::too_short(STATES_SIZE, out, words, queue) {
         return 0;
     }
     let length = write_states(rule, sheet, out, words, queue);
@@ -179,7 +191,7 @@ pub fn text_of(
     words: &mut [u16],
     queue: &mut [u8],
 ) -> usize
-    ensures { λ r. ⌜ Stated report-size (part-text part rule (now (sheet .entry))) (lent (now (out .entry)) (now (words .entry)) (now (queue .entry))) (lent (now (out .exit)) (now (words .exit)) (now (queue .exit))) r ⌝ }
+    ensures { λ r. ⌜ Stated (part-size part) (part-text part rule (now (sheet .entry))) (lent (now (out .entry)) (now (words .entry)) (now (queue .entry))) (lent (now (out .exit)) (now (words .exit)) (now (queue .exit))) r ⌝ }
 {
     match part {
         Part::Answer => checker::answer_text(rule, sheet, out, words, queue),

@@ -4,10 +4,10 @@ ghost use mathlib.Core.Path.{_≡_};
 ghost use Rattle.stored.specs.Counted as told;
 use frames::Frame;
 use layout::QUEUE_SIZE;
-use layout::REPORT_SIZE;
 use layout::WORDS_SIZE;
 use paper::Rule;
 use states::Part;
+use states::STATES_SIZE;
 
 // The most sheets of one kind that are counted.
 const MOST: u64 = 1000000;
@@ -165,7 +165,7 @@ fn one(
 pub fn run(list: List) {
     let mut sheet = [0u8; 70000];
     let mut stored = [0u8; 70000];
-    let mut text = [0u8; REPORT_SIZE];
+    let mut text = [0u8; STATES_SIZE];
     let mut words = [0u16; WORDS_SIZE];
     let mut queue = [0u8; QUEUE_SIZE];
     let mut tally = Tally {

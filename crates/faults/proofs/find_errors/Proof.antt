@@ -1,5 +1,5 @@
 -- `find_errors` meets its contract: the pass has been over the blocks so far, at most a fault's line a step and a line a block, and the
--- blocks left get fewer; a sheet has at most 1,024 steps and 64 blocks, so there is room for the next block's lines.
+-- blocks left get fewer; a sheet has at most `max-steps` steps and `max-blocks` blocks, so there is room for the next block's lines.
 use mathlib.Core.Path.{_≡_, refl}
 use Prim.Native.Nat.{_+_, _*_, _-_, _≤_}
 use native.Mathlib.Omega.{arith}

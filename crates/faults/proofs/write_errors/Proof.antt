@@ -1,5 +1,5 @@
 -- `write_errors` meets its contract: no allocation is missing, so the lines are every block's. Counting the faults leaves the report as
--- it is; the header, 1,024 lines of faults and 64 of blocks fit. Where the count is 0 the sheet is accepted, and its lines are those of
+-- it is; the header, a line for each step and one for each block fit. Where the count is 0 the sheet is accepted, and its lines are those of
 -- the blocks without a mark.
 use native.Mathlib.Omega.{arith}
 use Rattle.report.specs.Lengths.{header-short}

@@ -51,7 +51,7 @@ cast-b c = omega (arith, c .slice-known3 .given (c .before .before .before .args
 take-requires : tie.Need-take-requires Inv-loop μ-loop
 take-requires c κs = search needs
 
--- the block is one of at most 64
+-- the block is one of at most `max-blocks`
 element-copy-out-if1 : tie.Need-element-copy-out-if1 Inv-loop μ-loop
 element-copy-out-if1 c = let v = visiting (start-of c .pre .1) (taken c) in omega (arith, v .small)
 

@@ -1,5 +1,5 @@
 -- `text_of` meets its contract: each part is stated by the function that writes it.
-use Rattle.states.specs.Stated.{part-text}
+use Rattle.states.specs.Stated.{part-text, part-size}
 use borrow.Author.Needs.{needs}
 use Rattle.states.proofs.text_of.Statement.{statement}
 use Rattle.states.proofs.text_of.Tie as tie
@@ -27,7 +27,7 @@ same-length-3 : tie.Need-same-length-3
 same-length-3 c = search needs
 
 returns : tie.Need-returns
-unfolding part-text
+unfolding part-text part-size
 returns c = let a = c .before .before .before .before .before .before in
     rw (a .before .before .before .before .enum-told .given .1) (a .answer-text .ensures)
 
@@ -41,7 +41,7 @@ same-length-6 : tie.Need-same-length-6
 same-length-6 c = search needs
 
 returns-2 : tie.Need-returns-2
-unfolding part-text
+unfolding part-text part-size
 returns-2 c = let s = c .before .before .before .before .before .before in
     rw (s .before .before .before .before .enum-told2 .given .1) (s .entry-states .ensures .0)
 

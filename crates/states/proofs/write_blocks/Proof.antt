@@ -1,4 +1,4 @@
--- `write_blocks` meets its contract: a line more each turn; 64 lines of 391 bytes fit.
+-- `write_blocks` meets its contract: a line more each turn; the longest line for each block fits.
 use mathlib.Core.Path.{_≡_, refl}
 use Prim.Native.Nat.{_*_, _-_, _≤_}
 use native.Mathlib.Omega.{arith}

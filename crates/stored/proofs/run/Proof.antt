@@ -1,13 +1,13 @@
 -- `stored::run` is safe: the lent buffers keep their lengths from sheet to sheet.
 use mathlib.Core.Path.{_≡_}
 use lib.ListN.{length}
-use Rattle.paper.specs.Limits.{report-size}
+use Rattle.states.specs.Stated.{states-size}
 use borrow.Author.Needs.{needs}
 use Rattle.stored.proofs.run.Statement.{statement}
 use Rattle.stored.proofs.run.Tie as tie
 
 abbrev Inv-loop : tie.InvT-loop
-Inv-loop list sheet₀ stored₀ text₀ words₀ queue₀ tally₀ turns₀ sheet stored text words queue tally turns = (length sheet ≡ 70000) × (length stored ≡ 70000) × (length text ≡ report-size)
+Inv-loop list sheet₀ stored₀ text₀ words₀ queue₀ tally₀ turns₀ sheet stored text words queue tally turns = (length sheet ≡ 70000) × (length stored ≡ 70000) × (length text ≡ states-size)
 
 abbrev μ-loop : tie.MeasureT-loop
 μ-loop list sheet₀ stored₀ text₀ words₀ queue₀ tally₀ turns₀ sheet stored text words queue tally turns = turns
