@@ -189,9 +189,9 @@ fn some_sheet(random: &mut Random, seed: u64, index: u64) -> Sheet {
 }
 
 /// Words whose text has so many bytes: of a long sheet the last steps are made operations without operands, and the operations' insts fill
-/// it up.
+/// it up, and then successors.
 fn of_length(length: usize) -> Vec<u16> {
-    let mut whole = packed(&long(1, 1));
+    let mut whole = packed(&long(1, 6)); // of some 64,400 bytes
     let steps = whole[6] as usize;
     for k in 0..steps {
         if whole[STEPS + 4 * k] % 8 == 4 {
@@ -222,6 +222,12 @@ fn of_length(length: usize) -> Vec<u16> {
             words[STEPS + 4 * k + 1] = [0, 10, 100, 1_000, 10_000][more];
             short -= more;
         }
+    }
+    for b in 0..words[5] as usize {
+        let at = BLOCKS + b * BLOCK;
+        let more = (8 - words[at + 2] as usize).min(short / 2);
+        words[at + 2] += more as u16;
+        short -= 2 * more;
     }
     words
 }
