@@ -1,4 +1,4 @@
-// One line of a sheet, read and judged by value: what it says, or the lowest of refusals 3 to 9 that it breaks beside the sheet so
+// One line of a sheet, read and judged by value: what it says, or the lowest of refusals 3 to 10 that it breaks beside the sheet so
 // far.
 ghost use mathlib.Core.Path.{_≡_};
 ghost use mathlib.Core.List.{List, [], _∷_, _++_};
@@ -28,6 +28,7 @@ use loaded::NO_REGISTER;
 use loaded::REGISTER;
 use paper::BEYOND_LIMIT;
 use paper::ILL_FORMED;
+use paper::INST_FALLS;
 use paper::OUT_OF_ORDER;
 use paper::OUT_OF_PLACE;
 use paper::REAL_ELSEWHERE;
@@ -54,10 +55,11 @@ const MAX_BLOCKS: u32 = layout::MAX_BLOCKS as u32;
 
 const MAX_INST: u32 = layout::MAX_INST as u32;
 
-// What is known of a line by the lines before it: is it out of place, and is it a step too many?
+// What is known of a line by the lines before it: is it out of place, is it a step too many, and the inst below which its own falls.
 pub struct Place {
     pub misplaced: bool,
     pub surplus: bool,
+    pub last: u32,
 }
 
 // What a line breaks: the number of its refusal.
@@ -244,8 +246,15 @@ pub fn allocation_behind(s: &[u8], at: usize) -> Number
 }
 
 // The one place where a well-formed line gets its number: document 01's order.
-fn lowest(place: Place, beyond: bool, disorder: bool, elsewhere: bool, differ: bool) -> Judged
-    ensures { λ r. ⌜ r ≡ judged-of (first-holding (holding place beyond disorder elsewhere differ)) ⌝ }
+fn lowest(
+    place: Place,
+    beyond: bool,
+    disorder: bool,
+    elsewhere: bool,
+    differ: bool,
+    falls: bool,
+) -> Judged
+    ensures { λ r. ⌜ r ≡ judged-of (first-holding (holding place beyond disorder elsewhere differ falls)) ⌝ }
 {
     let number = if place.misplaced {
         OUT_OF_PLACE
@@ -259,6 +268,8 @@ fn lowest(place: Place, beyond: bool, disorder: bool, elsewhere: bool, differ: b
         TYPES_DIFFER
     } else if place.surplus {
         STEP_TOO_MANY
+    } else if falls {
+        INST_FALLS
     } else {
         return Judged::Passes;
     };
@@ -358,7 +369,7 @@ pub fn function_line(s: &[u8], at: usize, place: Place) -> FunctionLine
     let blocks = v[3];
     let entry = v[4];
     let beyond = function_beyond(regs, slots, vregs, blocks, entry);
-    let judged = lowest(place, beyond, false, false, false);
+    let judged = lowest(place, beyond, false, false, false, false);
     match judged {
         Judged::Breaks(breach) => FunctionLine::Bad(breach),
         Judged::Passes => FunctionLine::Good {
@@ -385,7 +396,7 @@ pub fn typed_line(s: &[u8], at: usize, place: Place, counts: Counts, least: u32)
     };
     let v = read.values;
     let n = v[0];
-    let judged = lowest(place, counts.vregs <= n, n < least, false, false);
+    let judged = lowest(place, counts.vregs <= n, n < least, false, false, false);
     match judged {
         Judged::Breaks(breach) => TypedLine::Bad(breach),
         Judged::Passes => TypedLine::Good { n, next },
@@ -409,7 +420,7 @@ pub fn block_line(s: &[u8], at: usize, place: Place, counts: Counts) -> BlockLin
         };
     };
     let beyond = any_beyond(succs, count, counts.blocks);
-    let judged = lowest(place, beyond, false, false, false);
+    let judged = lowest(place, beyond, false, false, false, false);
     let told = match judged {
         Judged::Breaks(breach) => BlockTold::Bad(breach),
         Judged::Passes => BlockTold::Good { count, next },
@@ -431,7 +442,14 @@ pub fn pair_line(s: &[u8], at: usize, place: Place, first: u32, second: u32) -> 
     let v = read.values;
     let a = v[0];
     let b = v[1];
-    let judged = lowest(place, (first <= a) | (second <= b), false, false, false);
+    let judged = lowest(
+        place,
+        (first <= a) | (second <= b),
+        false,
+        false,
+        false,
+        false,
+    );
     match judged {
         Judged::Breaks(breach) => PairLine::Bad(breach),
         Judged::Passes => PairLine::Good { a, b, next },
@@ -522,7 +540,7 @@ pub fn change_line(s: &[u8], at: usize, place: Place, counts: Counts, typed: &[u
     let beyond = (MAX_INST < inst)
         | ((counts.slots <= slot) | (name_beyond(from, counts) | name_beyond(to, counts)));
     let differ = is_typed(typed, from) != is_typed(typed, to);
-    let judged = lowest(place, beyond, false, false, differ);
+    let judged = lowest(place, beyond, false, false, differ, inst < place.last);
     match judged {
         Judged::Breaks(breach) => ChangeLine::Bad(breach),
         Judged::Passes => ChangeLine::Good {
@@ -691,7 +709,7 @@ fn judge_operation(
 {
     let beyond = (MAX_INST < inst) | (group_beyond(uses, counts) | group_beyond(defs, counts));
     if beyond {
-        return lowest(place, beyond, false, false, false);
+        return lowest(place, beyond, false, false, false, false);
     }
     let used = uses.names;
     let defined = defs.names;
@@ -699,7 +717,7 @@ fn judge_operation(
     let disorder = repeated(used, uses.count, NAMES)
         | (repeated(defined, defs.count, NAMES) | repeated(registers, defs.count, NO_ALLOCATION));
     let elsewhere = any_elsewhere(uses) | any_elsewhere(defs);
-    lowest(place, beyond, disorder, elsewhere, false)
+    lowest(place, beyond, disorder, elsewhere, false, inst < place.last)
 }
 
 fn register_word(register: u32) -> u16
@@ -854,7 +872,14 @@ pub fn safepoint_line(s: &[u8], at: usize, place: Place, counts: Counts) -> Safe
         return SafepointLine::Bad(Breach { number: ILL_FORMED });
     };
     let beyond = (MAX_INST < inst) | listed.beyond;
-    let judged = lowest(place, beyond, listed.disorder, false, false);
+    let judged = lowest(
+        place,
+        beyond,
+        listed.disorder,
+        false,
+        false,
+        inst < place.last,
+    );
     match judged {
         Judged::Breaks(breach) => SafepointLine::Bad(breach),
         Judged::Passes => SafepointLine::Good {
