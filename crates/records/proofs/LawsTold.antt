@@ -161,7 +161,7 @@ module _ {so : Option Sheet} {place : Place} where
     order = λ z. sym (h .order a b);
     home = λ z. sym (h .home a b);
     types = λ z. sym (h .types a b);
-    insts = λ z. rw (h .no-inst (last-inst (so-far-of so)) a b) (sym (le-ltb _ _ (omega arith)));
+    insts = λ z. rw (h .no-inst (last-inst (so-far-of so)) a b) (sym (le-ltb (last-inst (so-far-of so)) (last-inst (so-far-of so)) (omega arith)));
   }
 
 -- `F` of five numbers, `T` of one, a step of two

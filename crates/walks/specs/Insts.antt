@@ -186,26 +186,26 @@ passed c cs e = go (c .holds) refl e
     go false p f = (p, f)
 
 -- a later condition gives its number where one with another number does not
-later : (c : Condition) (cs : List Condition) (n : ℕ) → (c .number ≡ n → ⊥) → first-holding (c ∷ cs) ≡ some n → first-holding cs ≡ some n
+later : (number : ℕ) (holds : Bool) (cs : List Condition) (n : ℕ) → (number ≡ n → ⊥) → first-holding (record { number = number; holds = holds } ∷ cs) ≡ some n
+    → first-holding cs ≡ some n
 unfolding first-holding
-later c cs n d e = go (c .holds) e
-  where
-    go : (b : Bool) → cond b (some (c .number)) (first-holding cs) ≡ some n → first-holding cs ≡ some n
-    go true f = let z : c .number ≡ n = cc in absurd (d z)
-    go false f = f
+later number true cs n d e = let z : number ≡ n = cc in absurd (d z)
+later number false cs n d e = e
+
+holding : (number : ℕ) (holds : Bool) → first-holding (record { number = number; holds = holds } ∷ []) ≡ some number → holds ≡ true
+unfolding first-holding
+holding number true e = refl
+holding number false e = let z : _≡_ {A = ℕ} 0 1 = cc in absurd (omega arith)
 
 lowest-ten : (so-far : Option Sheet) (r : Record) → first-holding (conditions so-far r) ≡ some 10 → inst-falls (so-far-of so-far) r ≡ true
-unfolding conditions first-holding
+unfolding conditions
 lowest-ten so-far r e =
-    last (inst-falls (so-far-of so-far) r)
-    (later _ _ 10 (λ q. omega arith)
-    (later _ _ 10 (λ q. omega arith)
-    (later _ _ 10 (λ q. omega arith)
-    (later _ _ 10 (λ q. omega arith) (later _ _ 10 (λ q. omega arith) (later _ _ 10 (λ q. omega arith) e))))))
-  where
-    last : (b : Bool) → cond {A = Option ℕ} b (some 10) none ≡ some 10 → b ≡ true
-    last true f = refl
-    last false f = let z : _≡_ {A = ℕ} 0 1 = cc in absurd (omega arith)
+    let five = later 4 _ _ 10 (λ q. omega arith) e in
+    let six = later 5 _ _ 10 (λ q. omega arith) five in
+    let seven = later 6 _ _ 10 (λ q. omega arith) six in
+    let eight = later 7 _ _ 10 (λ q. omega arith) seven in
+    let nine = later 8 _ _ 10 (λ q. omega arith) eight in
+    holding 10 _ (later 9 _ _ 10 (λ q. omega arith) nine)
 
 record Kept (so-far : Option Sheet) (r : Record) : Type 0 where
   in-place : out-of-place so-far r ≡ false
@@ -282,6 +282,13 @@ lines-rise (l ∷ ls) line so-far S g e = at _ (read-line so-far l) refl e (λ R
     at field (good R) h f rec = rec R (good-line so-far l R h .rising g) f
     at field (bad number) h f rec = let z : _≡_ {A = ℕ} 0 1 = cc in absurd (omega arith)
 
+-- the first line
+at-once : {first before line : ℕ} {l : Bytes} {ls : List Bytes} → line ≡ first → (inst : ℕ) → record-insts (record-of (fields l)) ≡ inst ∷ [] → inst < before
+    → Fallen first before (l ∷ ls) line
+unfolding last-of lines-insts
+at-once {l} {ls} e inst h s =
+    record { earlier = []; fallen = l; later = ls; parted = refl; place = omega arith; inst = inst; has = h; smaller = s }
+
 -- the lines behind a good one
 behind : {first before : ℕ} {l : Bytes} {ls : List Bytes} {line : ℕ} → Fallen (suc first) (last-of before (record-insts (record-of (fields l)))) ls line
     → Fallen first before (l ∷ ls) line
@@ -322,16 +329,7 @@ lines-fall (l ∷ ls) line so-far r e n = at (read-line so-far l) refl e (λ R f
         let z : _≡_ {A = Refusal} (record { number = number; line = line; field = field-of number (so-far-of so-far) (fields l) }) r = cc in
         let ten : number ≡ 10 = ap (λ (x : Refusal). x .number) z ∙ n in
         let w = bad-line so-far l (rw ten at h) in
-        record {
-          earlier = [];
-          fallen = l;
-          later = ls;
-          parted = refl;
-          place = sym (ap (λ (x : Refusal). x .line) z) ∙ omega arith;
-          inst = w .inst;
-          has = w .has;
-          smaller = unfold last-of lines-insts in w .smaller;
-        }
+        at-once (sym (ap (λ (x : Refusal). x .line) z)) (w .inst) (w .has) (w .smaller)
 
 -- from bytes
 
