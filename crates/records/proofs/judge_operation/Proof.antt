@@ -61,7 +61,7 @@ lowest-requires-2 c κs = search needs
 
 returns-2 : tie.Need-returns-2
 returns-2 c =
-    let l = c .before in
+    let l = c .before .before in
     let r = l .before .before in
     let e = within-of (r .before .before .before) in
     let u = e .before .before .group-beyond .ensures in
