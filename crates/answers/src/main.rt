@@ -1,5 +1,8 @@
 // The program that the command runs: standard input is frames, each a request, which is the letter of a rule (`o` old, `h` house; `O`,
 // `H` for a sealed report) and a sheet behind it. Each is answered by one frame: the report under that rule, or `X number line field`.
+
+#![tactic(auto)]
+
 ghost use Rattle.std.specs.Prelude.{◌≡◌};
 ghost use Rattle.checker.specs.Checked.{lent};
 ghost use Rattle.answers.specs.Request.{rule_asked, Replied};
@@ -9,7 +12,7 @@ use layout::{QUEUE_SIZE, SEALED_SIZE, WORDS_SIZE};
 use paper::Rule;
 
 // The rule that a letter asks for, with or without a seal, if it is the letter of one.
-#[derive(Drop)]
+#[derive(Clone, Copy)]
 enum Asked {
     For(Rule),
     Sealed(Rule),
@@ -17,7 +20,7 @@ enum Asked {
 }
 
 // A request was answered by a text of this length, or it asks for no rule.
-#[derive(Drop)]
+#[derive(Clone, Copy)]
 enum Reply {
     Text(usize),
     Malformed,

@@ -1,5 +1,8 @@
 // Packed cells, their meet by a table, and a state of two rows of cells, by value or changed in place. A cell is a u16: its name
 // (virtual v is v, real r is 256 + r), its mark and its kind (absent 0, unknown 1, conflicted 2, named 3).
+
+#![tactic(auto)]
+
 ghost use Rattle.std.specs.Prelude.{◌≡◌, true, false, cond, List, map, ℕ, ◌+◌, ◌-◌, ◌^◌, ◌≤◌, ◌<◌, length, get_or, take};
 ghost use Rattle.std.specs.Int.Count.{count_trailing_zeros};
 ghost use Rattle.lists.specs.Over.{over};
@@ -44,7 +47,7 @@ const REAL_CELLS: u16 = NAMED + REAL_NAMES;
 pub type State = [[u16; ROW_WORDS]; 2];
 
 // How many cells each row of a state has.
-#[derive(Drop)]
+#[derive(Clone, Copy)]
 pub struct RowCounts {
     pub regs: usize,
     pub slots: usize,

@@ -1,4 +1,7 @@
 // The checker: a sheet, a rule and three lent buffers in; one of three answers out.
+
+#![tactic(auto)]
+
 ghost use Rattle.std.specs.Prelude.{◌≡◌, ◌≤◌, length};
 ghost use Rattle.lists.specs.Sets.{Wrote};
 ghost use Rattle.paper.specs.Limits.{report_size, words_size, queue_size};
@@ -14,7 +17,7 @@ use sheet::Loading;
 
 // An answer over the C interface: 0 accepted, 1 faulty, 2 refused; the report's length; the refusal's number, line and field.
 #[repr(C)]
-#[derive(Drop)]
+#[derive(Clone, Copy)]
 pub struct Verdict {
     pub answer: u8,
     pub number: u8,

@@ -1,5 +1,8 @@
 // The first field of a bad line that shows its refusal. It is looked for behind the refusal, over the line's bytes, so that good
 // lines pay nothing for it.
+
+#![tactic(auto)]
+
 ghost use Rattle.std.specs.Prelude.{◌≡◌, not, List};
 ghost use Rattle.paper.specs.Text.{fields};
 ghost use Rattle.paper.specs.Sheet.{Operand, Sheet};
@@ -29,7 +32,7 @@ const INST_END: u32 = layout::MAX_INST as u32 + 1;
 const OPERANDS_END: u32 = layout::MAX_OPERANDS as u32 + 1;
 
 // What is looked for in an operand: the refusal's number, what values are held against, and whether it is a def.
-#[derive(Drop)]
+#[derive(Clone, Copy)]
 pub struct Sought {
     pub number: u8,
     pub counts: Counts,
@@ -37,7 +40,7 @@ pub struct Sought {
 }
 
 // How far a group of operands passes: all its fields, so many, up to a place; or so many, and the next one shows the refusal.
-#[derive(Drop)]
+#[derive(Clone, Copy)]
 pub enum Group {
     Passes { count: usize, next: usize },
     Shows(usize),

@@ -1,4 +1,7 @@
 // Two reports compared: is each well formed, where do they part, and the rest of the longer one from there on, as a part of it.
+
+#![tactic(auto)]
+
 ghost use Rattle.std.specs.Prelude.{◌≡◌, false, ◌+◌, ◌≤◌, ◌<◌, length, [], ◌∷◌};
 ghost use Rattle.paper.specs.Text.{fields};
 ghost use Rattle.fields.specs.Fields.{ends_field, line_at};
@@ -11,7 +14,7 @@ use fields::{End, Name, Number};
 use paper::Compared;
 
 // A place of a report behind what was read, or that something else stands there.
-#[derive(Drop)]
+#[derive(Clone, Copy)]
 pub enum Place {
     At(usize),
     Bad,
@@ -19,7 +22,7 @@ pub enum Place {
 
 // What two reports come to, over the C interface: 0 equal, 1 they part, 2 malformed.
 #[repr(C)]
-#[derive(Drop)]
+#[derive(Clone, Copy)]
 pub struct Judgement {
     pub answer: u8,
     pub side: u8,

@@ -1,5 +1,8 @@
 // Finding a sheet's faults, missing allocations first, then what the checks find, and having `report` write a line for each, and for
 // each block that no walk comes to.
+
+#![tactic(auto)]
+
 ghost use Rattle.std.specs.Prelude.{◌≡◌, true, [], ◌∷◌, map, ◌+◌, ◌*◌, ◌≤◌, ◌<◌, length, get_or};
 ghost use Rattle.lists.specs.Sets.{Wrote};
 ghost use Rattle.paper.specs.Sheet.{steps_of};
@@ -23,14 +26,14 @@ use report::{FaultFields, Field, Position};
 use steps::CheckerError;
 
 // What a pass over the blocks does: counts the faults, or writes every line.
-#[derive(Drop)]
+#[derive(Clone, Copy)]
 pub enum Pass {
     Count,
     Write,
 }
 
 // The first step that has an operand with no allocation: its block, its place there, and its number in the sheet.
-#[derive(Drop)]
+#[derive(Clone, Copy)]
 pub enum Missing {
     Nothing,
     Found {

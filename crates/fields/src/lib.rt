@@ -1,32 +1,35 @@
 // Text fields: a number, a name or an allocation read at a place of a text, and numbers and names written into a lent buffer.
+
+#![tactic(auto)]
+
 ghost use Rattle.std.specs.Prelude.{◌≡◌, [], ◌∷◌, ◌+◌, ◌≤◌, ◌<◌, length};
 ghost use Rattle.lists.specs.Sets.{Wrote};
 ghost use Rattle.paper.specs.Text.{is_digit, digit_from, digits, name_text};
 ghost use Rattle.fields.specs.Fields.{ends_field, number_at, name_at, allocation_at, end_at, NumberWithin, NameWithin, AllocationWithin, EndWithin, name_made};
 
 // A number, and the place behind its field.
-#[derive(Drop)]
+#[derive(Clone, Copy)]
 pub enum Number {
     Value(u32, usize),
     Bad,
 }
 
 // A name: is it real, its number, and the place behind its field.
-#[derive(Drop)]
+#[derive(Clone, Copy)]
 pub enum Name {
     Value(bool, u32, usize),
     Bad,
 }
 
 // An allocation: is there one, its register's number, and the place behind its field.
-#[derive(Drop)]
+#[derive(Clone, Copy)]
 pub enum Allocation {
     Value(bool, u32, usize),
     Bad,
 }
 
 // What stands at a place: a tab, behind which another field follows; a line feed, behind which the next line stands; or neither.
-#[derive(Drop)]
+#[derive(Clone, Copy)]
 pub enum End {
     Tab,
     LineFeed,

@@ -1,6 +1,9 @@
 // Writes forms made by hand, in bulk: standard input is frames, each three bytes, the size of the room to write to, and behind them words
 // of two bytes, all lowest byte first. Each is answered by three frames: `T` where the form was written, `S` where no sheet gives it, `R`
 // where the room is too small; the text, empty where there is none; and what the room holds afterwards, which held dots before.
+
+#![tactic(auto)]
+
 ghost use Rattle.std.specs.Prelude.{◌≤◌, length};
 
 use frames::Frame;

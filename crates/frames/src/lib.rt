@@ -1,4 +1,7 @@
 // Frames on standard input and output: a line `#` and a decimal length of at most five digits, then that many bytes.
+
+#![tactic(auto)]
+
 ghost use Rattle.std.specs.Prelude.{◌≡◌, true, ◌≤◌, length};
 ghost use Rattle.lists.specs.Sets.{Wrote};
 ghost use Rattle.frames.specs.Frame.{longest_frame, longest_head, frame_head, length_of, LengthWithin, LineLeft, FrameLeft};
@@ -8,20 +11,20 @@ use fields::{End, Number};
 const LONGEST_FRAME: usize = 99999;
 
 // A frame was read, of so many bytes; the input ended; or what came is no frame.
-#[derive(Drop)]
+#[derive(Clone, Copy)]
 pub enum Frame {
     Read(usize),
     End,
     Malformed,
 }
 
-#[derive(Drop)]
+#[derive(Clone, Copy)]
 enum Byte {
     Value(u8),
     None,
 }
 
-#[derive(Drop)]
+#[derive(Clone, Copy)]
 enum Length {
     Value(usize),
     Bad,

@@ -2,6 +2,8 @@
 // is computed from the limits, so that none is searched for. paper's Limits and specs/Layout.antt have the same names, and the
 // contracts of the code that uses a constant tie it to them.
 
+#![tactic(auto)]
+
 // Registers, and so real names.
 pub const MAX_REGS: usize = 32;
 

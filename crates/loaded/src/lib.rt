@@ -1,5 +1,8 @@
 // The loaded words: how a sheet stands in them, one step, one block and one header at a time, and what other crates read of them.
 // `sheet` fills them line by line; the runs, the checks and the entry states read them here.
+
+#![tactic(auto)]
+
 ghost use Rattle.std.specs.Prelude.{◌≡◌, ℕ, ◌+◌, ◌*◌, ◌≤◌, ◌<◌, length, get_or, take};
 ghost use Rattle.lists.specs.Kept.{Kept};
 ghost use Rattle.lists.specs.Over.{over};
@@ -26,7 +29,7 @@ pub const NO_REGISTER: u16 = 63;
 pub const REGISTER: u16 = 1024;
 
 // A copy of one cell, by the rows that it goes between: a slot from a register, a register from a slot, a register from a register.
-#[derive(Drop)]
+#[derive(Clone, Copy)]
 pub enum CopyKind {
     Spill,
     Reload,
@@ -34,14 +37,14 @@ pub enum CopyKind {
 }
 
 // The rows of a copy.
-#[derive(Drop)]
+#[derive(Clone, Copy)]
 pub struct CopyRows {
     pub into: usize,
     pub from: usize,
 }
 
 // A step. An operation's uses stand in the lent words from `at` on, its defs from `at + DEFS_FROM` on.
-#[derive(Drop)]
+#[derive(Clone, Copy)]
 pub enum Action {
     Copy {
         kind: CopyKind,
@@ -67,7 +70,7 @@ pub enum Action {
 }
 
 // `F`'s counts, which the lines behind it are held against.
-#[derive(Drop)]
+#[derive(Clone, Copy)]
 pub struct Counts {
     pub regs: u32,
     pub slots: u32,
@@ -76,7 +79,7 @@ pub struct Counts {
 }
 
 // How far reading has come: whether the `F` has been read, how many blocks and steps, and the least number of the next `T`.
-#[derive(Drop)]
+#[derive(Clone, Copy)]
 pub struct Reached {
     pub begun: bool,
     pub opened: usize,

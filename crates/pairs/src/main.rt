@@ -1,5 +1,8 @@
 // Compares reports in bulk: standard input is texts in frames, two reports to a pair; each pair is answered by one text, what `regcompare`
 // writes of it. A text's frames have 99,999 bytes each but for the last, which has fewer.
+
+#![tactic(auto)]
+
 ghost use Rattle.pairs.specs.Texts.{TextWithin};
 
 use frames::Frame;
@@ -11,7 +14,7 @@ const LONGEST_REPORT: usize = 1048576;
 const LONGEST_TEXT: usize = 1048592;
 
 // A text was read, of so many bytes; the input ended; or what came is no text.
-#[derive(Drop)]
+#[derive(Clone, Copy)]
 enum Text {
     Read(usize),
     End,

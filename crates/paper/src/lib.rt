@@ -1,8 +1,10 @@
 // The choices that the papers name, document 01's refusals and answers, what two reports come to, what a seal comes to,
 // and what writing a sheet comes to, as the code passes them.
 
+#![tactic(auto)]
+
 // The rule is a choice of two, with no third value.
-#[derive(Drop)]
+#[derive(Clone, Copy)]
 pub enum Rule {
     Old,
     House,
@@ -29,7 +31,7 @@ pub const STEP_TOO_MANY: u8 = 9;
 
 // Why a sheet is turned away: the refusal's number, the line that it is given at, 0 where it is of no line, and the line's first field
 // to show it, 0 where the number names none.
-#[derive(Drop)]
+#[derive(Clone, Copy)]
 pub struct Refusal {
     pub number: u8,
     pub line: usize,
@@ -37,7 +39,7 @@ pub struct Refusal {
 }
 
 // What is said of a sheet: accepted or faulty, with the report's length; or refused.
-#[derive(Drop)]
+#[derive(Clone, Copy)]
 pub enum Answer {
     Accepted(usize),
     Faulty(usize),
@@ -46,7 +48,7 @@ pub enum Answer {
 
 // What two reports come to: equal; they part, at a line whose first byte stands at a place of both; or one is malformed, the first
 // or the second, and this is its first bad line.
-#[derive(Drop)]
+#[derive(Clone, Copy)]
 pub enum Compared {
     Equal,
     Parts { line: usize, place: usize },
@@ -54,7 +56,7 @@ pub enum Compared {
 }
 
 // What the seal of a text comes to: good; a wrong word; or there is no seal line at its end.
-#[derive(Drop)]
+#[derive(Clone, Copy)]
 pub enum Seal {
     Good,
     Wrong,
@@ -62,7 +64,7 @@ pub enum Seal {
 }
 
 // What writing a loaded form comes to: its text stands, of so many bytes; no sheet gives it; or the buffer has no room for its text.
-#[derive(Drop)]
+#[derive(Clone, Copy)]
 pub enum Written {
     Text(usize),
     NoSheet,

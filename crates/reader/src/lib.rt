@@ -1,19 +1,22 @@
 // A reader that holds the sheet and its place: the field functions of `fields` again, over one struct. It is Copy, and what a
 // function reads says where the next reader stands.
+
+#![tactic(auto)]
+
 ghost use Rattle.std.specs.Prelude.{◌≡◌};
 ghost use Rattle.fields.specs.Fields.{number_at, name_at, allocation_at, end_at, NumberWithin, NameWithin, AllocationWithin, EndWithin};
 ghost use Rattle.reader.specs.Pairs.{pair_at};
 
 use fields::{Allocation, End, Name, Number};
 
-#[derive(Drop)]
+#[derive(Clone, Copy)]
 pub struct Reader<'a> {
     pub sheet: &'a [u8],
     pub at: usize,
 }
 
 // Two numbers that end a line, and the place where it ends.
-#[derive(Drop)]
+#[derive(Clone, Copy)]
 pub enum Pair {
     Value(u32, u32, usize),
     Bad,

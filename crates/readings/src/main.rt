@@ -1,4 +1,7 @@
 // Runs a stored list of sheets on the reader.
+
+#![tactic(auto)]
+
 use stored::List;
 
 fn main() {

@@ -1,5 +1,8 @@
 // One line of a sheet, read and judged by value: what it says, or the lowest of refusals 3 to 9 that it breaks beside the sheet so
 // far.
+
+#![tactic(auto)]
+
 ghost use Rattle.std.specs.Prelude.{◌≡◌, List, [], ◌∷◌, ◌++◌, ℕ, ◌+◌, ◌^◌, ◌≤◌, ◌<◌, eqb, leb, length, get_or, take, drop};
 ghost use Rattle.std.proofs.Math.Option.{Option, none, some};
 ghost use Rattle.std.proofs.Math.Decide.{ℕ_discrete};
@@ -42,27 +45,27 @@ const MAX_BLOCKS: u32 = layout::MAX_BLOCKS as u32;
 const MAX_INST: u32 = layout::MAX_INST as u32;
 
 // What is known of a line by the lines before it: is it out of place, and is it a step too many?
-#[derive(Drop)]
+#[derive(Clone, Copy)]
 pub struct Place {
     pub misplaced: bool,
     pub surplus: bool,
 }
 
 // What a line breaks: the number of its refusal.
-#[derive(Drop)]
+#[derive(Clone, Copy)]
 pub struct Breach {
     pub number: u8,
 }
 
 // A well-formed line held against the conditions.
-#[derive(Drop)]
+#[derive(Clone, Copy)]
 pub enum Judged {
     Passes,
     Breaks(Breach),
 }
 
 // A line of `F`, `T`, of two numbers, `C` or `P`: what it says and the place of its line feed, or what it breaks.
-#[derive(Drop)]
+#[derive(Clone, Copy)]
 pub enum FunctionLine {
     Good {
         regs: u32,
@@ -75,19 +78,19 @@ pub enum FunctionLine {
     Bad(Breach),
 }
 
-#[derive(Drop)]
+#[derive(Clone, Copy)]
 pub enum TypedLine {
     Good { n: u32, next: usize },
     Bad(Breach),
 }
 
-#[derive(Drop)]
+#[derive(Clone, Copy)]
 pub enum PairLine {
     Good { a: u32, b: u32, next: usize },
     Bad(Breach),
 }
 
-#[derive(Drop)]
+#[derive(Clone, Copy)]
 pub enum ChangeLine {
     Good {
         inst: u16,
@@ -99,26 +102,26 @@ pub enum ChangeLine {
     Bad(Breach),
 }
 
-#[derive(Drop)]
+#[derive(Clone, Copy)]
 pub enum SafepointLine {
     Good { inst: u16, mask: u32, next: usize },
     Bad(Breach),
 }
 
 // A line of `B` or `O`, whose list stands beside it: as much of the list counts as a good line says.
-#[derive(Drop)]
+#[derive(Clone, Copy)]
 pub enum BlockTold {
     Good { count: usize, next: usize },
     Bad(Breach),
 }
 
-#[derive(Drop)]
+#[derive(Clone, Copy)]
 pub struct BlockLine {
     pub told: BlockTold,
     pub succs: [u32; MAX_SUCCS],
 }
 
-#[derive(Drop)]
+#[derive(Clone, Copy)]
 pub enum OperationTold {
     Good {
         inst: u16,
@@ -129,14 +132,14 @@ pub enum OperationTold {
     Bad(Breach),
 }
 
-#[derive(Drop)]
+#[derive(Clone, Copy)]
 pub struct OperationLine {
     pub told: OperationTold,
     pub operands: [u16; OPERAND_WORDS],
 }
 
 // The form of what was read: good, up to a place, or bad.
-#[derive(Drop)]
+#[derive(Clone, Copy)]
 pub enum Form {
     Good(usize),
     Bad,
@@ -144,7 +147,7 @@ pub enum Form {
 
 // The numbers that are left of a line. The form is bad where a field is no number or a ninth stands there; the count is then that
 // of the numbers before it.
-#[derive(Drop)]
+#[derive(Clone, Copy)]
 pub struct Numbers {
     pub form: Form,
     pub count: usize,
@@ -152,21 +155,21 @@ pub struct Numbers {
 }
 
 // As many numbers as a line must have: its form is bad where there are fewer or more.
-#[derive(Drop)]
+#[derive(Clone, Copy)]
 pub struct Exactly {
     pub form: Form,
     pub values: [u32; MAX_SUCCS],
 }
 
 // An operand's name and its allocation, and the place behind them.
-#[derive(Drop)]
+#[derive(Clone, Copy)]
 pub enum TwoNumbers {
     Value(u32, u32, usize),
     Bad,
 }
 
 // The fields of a `C`: its numbers, its names in one number each, and the place of the line feed.
-#[derive(Drop)]
+#[derive(Clone, Copy)]
 pub enum Change {
     Value {
         inst: u32,
@@ -179,7 +182,7 @@ pub enum Change {
 }
 
 // A group of operands, `n (name reg)*n`: its form, how many there are, and the first 8.
-#[derive(Drop)]
+#[derive(Clone, Copy)]
 pub struct Operands {
     pub form: Form,
     pub count: usize,
@@ -188,7 +191,7 @@ pub struct Operands {
 }
 
 // The slots of a `P` so far: is one beyond the limit, are they out of order, their mask, and the least that may come next.
-#[derive(Drop)]
+#[derive(Clone, Copy)]
 pub struct Listed {
     pub beyond: bool,
     pub disorder: bool,
@@ -197,7 +200,7 @@ pub struct Listed {
 }
 
 // The slots of a `P`: what they come to, and the place of the line feed.
-#[derive(Drop)]
+#[derive(Clone, Copy)]
 pub enum Slots {
     Value(Listed, usize),
     Bad,

@@ -1,4 +1,7 @@
 // Standard input to standard output: the house report of the sheet, or `X number line field` for a refusal.
+
+#![tactic(auto)]
+
 ghost use Rattle.std.specs.Prelude.{◌≤◌, length};
 
 use layout::{QUEUE_SIZE, REPORT_SIZE, WORDS_SIZE};
@@ -6,7 +9,7 @@ use libc::{STDIN_FILENO, STDOUT_FILENO};
 use paper::Rule;
 
 // How much was read, and whether a read failed.
-#[derive(Drop)]
+#[derive(Clone, Copy)]
 struct Input {
     pub count: usize,
     pub failed: bool,

@@ -1,4 +1,7 @@
 // Runs a stored list of the oracle's answers.
+
+#![tactic(auto)]
+
 use stored::List;
 
 fn main() {

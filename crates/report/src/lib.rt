@@ -1,4 +1,7 @@
 // Writing a report: its letters and fields, an `E` line, an `N` line, the header, each at a place of a lent buffer.
+
+#![tactic(auto)]
+
 ghost use Rattle.std.specs.Prelude.{◌∷◌, ◌+◌, ◌≤◌, ◌<◌, length};
 ghost use Rattle.lists.specs.Sets.{Wrote};
 ghost use Rattle.paper.specs.Text.{tab, digits, name_text};
@@ -13,7 +16,7 @@ use paper::Rule;
 const REAL_NAMES: u32 = cells::REAL_NAMES as u32;
 
 // A field of an `E` line: `-`, `rN`, `sN`, or a name's nine bits.
-#[derive(Drop)]
+#[derive(Clone, Copy)]
 pub enum Field {
     Nothing,
     Register(u32),
@@ -22,7 +25,7 @@ pub enum Field {
 }
 
 // Where a fault stands: its step's block, place there and inst.
-#[derive(Drop)]
+#[derive(Clone, Copy)]
 pub struct Position {
     pub block: usize,
     pub place: usize,
@@ -30,7 +33,7 @@ pub struct Position {
 }
 
 // The fields of an `E` line behind its inst.
-#[derive(Drop)]
+#[derive(Clone, Copy)]
 pub struct FaultFields {
     pub kind: u32,
     pub location: Field,

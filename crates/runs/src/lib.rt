@@ -1,4 +1,7 @@
 // The analysis under either rule: the blocks that wait, in the lent queue, and the visits over the table of states.
+
+#![tactic(auto)]
+
 ghost use Rattle.std.specs.Prelude.{◌≡◌, List, [], ℕ, ◌≤◌, ◌<◌, length};
 ghost use Rattle.paper.specs.Report.{missing_allocations};
 ghost use Rattle.paper.specs.Limits.{max_blocks, queue_size};
@@ -15,7 +18,7 @@ use layout::{MAX_BLOCKS, QUEUE_SIZE};
 use paper::Rule;
 
 // The blocks that wait: `count` bytes of the queue from `front` on, round its end.
-#[derive(Drop)]
+#[derive(Clone, Copy)]
 pub struct Ring {
     pub front: usize,
     pub count: usize,

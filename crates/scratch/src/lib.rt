@@ -1,4 +1,7 @@
 // The scratch left as it must be: every element of a lent buffer zero.
+
+#![tactic(auto)]
+
 ghost use Rattle.std.specs.Prelude.{◌≡◌, length, replicate};
 
 pub fn clear_words(words: &mut [u16])

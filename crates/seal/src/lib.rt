@@ -1,4 +1,7 @@
 // The seal of a report: the CRC-32 of ITU-T V.42 by a table, its line, and the reader that verifies it.
+
+#![tactic(auto)]
+
 ghost use Rattle.std.specs.Prelude.{◌≡◌, ◌+◌, ◌≤◌, ◌%◌, length, take};
 ghost use Rattle.lists.specs.Sets.{Wrote};
 ghost use Rattle.paper.specs.Limits.{seal_size};

@@ -1,4 +1,7 @@
 // The checker's answer with a sealed report: 11 bytes more of report buffer, and otherwise as `checker` has it.
+
+#![tactic(auto)]
+
 ghost use Rattle.std.specs.Prelude.{◌≡◌};
 ghost use Rattle.paper.specs.Limits.{sealed_size};
 ghost use Rattle.paper.specs.Answer as paper_answer;

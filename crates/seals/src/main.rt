@@ -1,4 +1,7 @@
 // Verifies seals in bulk: standard input is frames, each a text; each is answered by one frame, what `regseal` writes of it.
+
+#![tactic(auto)]
+
 use frames::Frame;
 use paper::Seal;
 

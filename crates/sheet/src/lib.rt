@@ -1,5 +1,8 @@
 // The sheet reader: bytes to loaded words, or the refusal. One pass from line to line: `records` reads a line and judges it; here
 // is told what the words say of its place, and what it says is stored.
+
+#![tactic(auto)]
+
 ghost use Rattle.std.specs.Prelude.{◌≡◌, ◌+◌, ◌≤◌, ◌<◌, length};
 ghost use Rattle.paper.specs.Text.{fields};
 ghost use Rattle.paper.specs.Limits.{words_size};
@@ -19,21 +22,21 @@ use records::{
 };
 
 // What loading a sheet comes to: its words stand, or it is refused.
-#[derive(Drop)]
+#[derive(Clone, Copy)]
 pub enum Loading {
     Loaded,
     Refused(Refusal),
 }
 
 // What a line comes to: the place of the next one, or what it breaks.
-#[derive(Drop)]
+#[derive(Clone, Copy)]
 pub enum Lined {
     Good(usize),
     Bad(Breach),
 }
 
 // The limits of a copy's two numbers.
-#[derive(Drop)]
+#[derive(Clone, Copy)]
 pub struct CopyLimits {
     pub into: u32,
     pub from: u32,

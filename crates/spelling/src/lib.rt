@@ -1,1 +1,3 @@
 // A sheet has one spelling: laws and theorems over paper's definitions, no code.
+
+#![tactic(auto)]

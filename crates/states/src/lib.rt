@@ -1,4 +1,7 @@
 // The entry states of a sheet as text, for comparison: for each block `D`, the block, whether it is visited, and its cells.
+
+#![tactic(auto)]
+
 ghost use Rattle.std.specs.Prelude.{◌≡◌, [], ◌∷◌, ◌+◌, ◌*◌, ◌≤◌, ◌<◌, length, get_or};
 ghost use Rattle.std.proofs.Math.Option.{Option};
 ghost use Rattle.lists.specs.Sets.{Wrote};
@@ -31,7 +34,7 @@ pub const STATES_SIZE: usize = MAX_BLOCKS
     * (HEAD_SIZE + CELL_SIZE * (MAX_REGS + MAX_SLOTS + 16) + 1);
 
 // What is compared of a sheet: what a program writes of its answer, or its entry states.
-#[derive(Drop)]
+#[derive(Clone, Copy)]
 pub enum Part {
     Answer,
     States,

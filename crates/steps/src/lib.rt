@@ -1,4 +1,7 @@
 // A step's check and its effect under either rule, and whether it lacks an allocation.
+
+#![tactic(auto)]
+
 ghost use Rattle.std.specs.Prelude.{◌≡◌, Bool, List, ℕ, ◌+◌, ◌/◌, ◌≤◌, ◌<◌, length, get_or};
 ghost use Rattle.lists.specs.Region.{region};
 ghost use Rattle.lists.specs.Bits.{set_bits};
@@ -21,7 +24,7 @@ use loaded::{Action, NO_REGISTER, REGISTER};
 use paper::Rule;
 
 // What a check finds.
-#[derive(Drop)]
+#[derive(Clone, Copy)]
 pub enum CheckerError {
     Nothing,
     UnknownValueInReg {

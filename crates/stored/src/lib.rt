@@ -1,5 +1,8 @@
 // Runs a stored list of sheets: standard input is frames, each sheet followed by what is stored of it. What is stored is computed
 // anew and compared; the last line says how many sheets differ.
+
+#![tactic(auto)]
+
 ghost use Rattle.std.specs.Prelude.{◌≡◌};
 ghost use Rattle.stored.specs.Counted as told;
 
@@ -12,7 +15,7 @@ use states::{Part, STATES_SIZE};
 const MOST: u64 = 1000000;
 
 // What one sheet came to.
-#[derive(Drop)]
+#[derive(Clone, Copy)]
 pub enum Outcome {
     Same,
     Different,
@@ -20,7 +23,7 @@ pub enum Outcome {
 }
 
 // How many sheets were the same and how many not, and whether the list goes on.
-#[derive(Drop)]
+#[derive(Clone, Copy)]
 pub struct Tally {
     pub same: u64,
     pub different: u64,
@@ -69,7 +72,7 @@ pub fn say(tally: Tally) {
 
 // What is stored of a sheet: its old answer, its house answer, its old and its house entry states; or `X number line field` where it is
 // refused and `ok` where it is read.
-#[derive(Drop)]
+#[derive(Clone, Copy)]
 pub enum List {
     Answers,
     Readings,

@@ -1,6 +1,9 @@
 // For comparison with another checker: standard input is frames, each a sheet. For each sheet it writes six frames: the old
 // answer, the house answer, the old entry states, the house entry states, the sealed house answer, empty where it is a refusal,
 // and the sheet written back, empty where it is refused.
+
+#![tactic(auto)]
+
 ghost use Rattle.std.specs.Prelude.{◌≤◌, length};
 
 use frames::Frame;

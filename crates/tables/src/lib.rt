@@ -1,5 +1,8 @@
 // The table of states in the lent words: a state and a mark for each block, how every block begins, and what happens where a state
 // comes to a block. No order of visits stands here: `runs` has it.
+
+#![tactic(auto)]
+
 ghost use Rattle.std.specs.Prelude.{◌≡◌, [], ℕ, ◌<◌, get_or};
 ghost use Rattle.paper.specs.Sheet.{Sheet};
 ghost use Rattle.paper.specs.Report.{missing_allocations};

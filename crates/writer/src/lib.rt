@@ -1,5 +1,8 @@
 // The writer: a loaded form back to its sheet's one text. The text is laid into a local buffer and given to the reader, whose answer says
 // whether a sheet gives the form; only then is the lent buffer looked at.
+
+#![tactic(auto)]
+
 ghost use Rattle.std.specs.Prelude.{◌≡◌, true, [], ◌∷◌, ◌++◌, map, ℕ, ◌+◌, ◌*◌, ◌≤◌, ◌<◌, length, get_or, take};
 ghost use Rattle.lists.specs.Sets.{Wrote};
 ghost use Rattle.lists.specs.Region.{region};
@@ -35,7 +38,7 @@ const TEXT_ROOM: usize = MAX_SHEET + LINE_ROOM;
 
 // What writing comes to over the C interface: 0 written, 1 no sheet gives the form, 2 the buffer is too short; the text's length.
 #[repr(C)]
-#[derive(Drop)]
+#[derive(Clone, Copy)]
 pub struct WriteVerdict {
     pub answer: u8,
     pub length: usize,
@@ -43,7 +46,7 @@ pub struct WriteVerdict {
 
 // What loading comes to over the C interface: the refusal's number, line and field, 0 where the sheet was read.
 #[repr(C)]
-#[derive(Drop)]
+#[derive(Clone, Copy)]
 pub struct LoadVerdict {
     pub number: u8,
     pub line: usize,

@@ -1,5 +1,8 @@
 // Writes sheets back in bulk: standard input is frames, each a sheet; each is answered by one frame, what `regwrite` writes of it: the
 // sheet's own bytes, or its refusal.
+
+#![tactic(auto)]
+
 ghost use Rattle.std.specs.Prelude.{◌≤◌, length};
 
 use frames::Frame;
