@@ -64,15 +64,19 @@ house_idem (named n m) = names_idem House n m
 
 pub house_comm : (x y : Cell) → meet House x y ≡ meet House y x
 unfolding meet house_meet
-house_comm absent y = elim y [ absent ↦ refl | unknown ↦ refl | conflicted ↦ refl | named k l ↦ refl ]
-house_comm unknown y = elim y [ absent ↦ refl | unknown ↦ refl | conflicted ↦ refl | named k l ↦ refl ]
-house_comm conflicted y = elim y [ absent ↦ refl | unknown ↦ refl | conflicted ↦ refl | named k l ↦ refl ]
-house_comm (named n m) y = elim y [ absent ↦ refl | unknown ↦ refl | conflicted ↦ refl | named k l ↦ names_comm House n k m l ]
+house_comm absent (named k l) = refl
+house_comm unknown (named k l) = refl
+house_comm conflicted (named k l) = refl
+house_comm (named n m) (named k l) = names_comm House n k m l
+house_comm x y = refl
 
 -- Absent wins over all
 pub absent_left : (x : Cell) → meet House absent x ≡ absent
 unfolding meet house_meet
-absent_left x = elim x [ absent ↦ refl | unknown ↦ refl | conflicted ↦ refl | named k l ↦ refl ]
+absent_left absent = refl
+absent_left unknown = refl
+absent_left conflicted = refl
+absent_left (named k l) = refl
 
 pub absent_right : (x : Cell) → meet House x absent ≡ absent
 absent_right x = house_comm x absent ∙ absent_left x
@@ -80,23 +84,14 @@ absent_right x = house_comm x absent ∙ absent_left x
 pub house_assoc : (x y z : Cell) → meet House (meet House x y) z ≡ meet House x (meet House y z)
 unfolding meet house_meet
 house_assoc absent y z = cc (absent_left y, absent_left z, absent_left (meet House y z))
-house_assoc unknown absent z = elim z [ absent ↦ refl | unknown ↦ refl | conflicted ↦ refl | named j p ↦ refl ]
-house_assoc unknown unknown z = elim z [ absent ↦ refl | unknown ↦ refl | conflicted ↦ refl | named j p ↦ refl ]
-house_assoc unknown conflicted z = elim z [ absent ↦ refl | unknown ↦ refl | conflicted ↦ refl | named j p ↦ refl ]
-house_assoc unknown (named k l) z =
-    elim z [ absent ↦ refl | unknown ↦ refl | conflicted ↦ refl | named j p ↦ names_meet House k j l p (λ c. unknown ≡ meet House unknown c) (λ e. refl) (λ e. refl) ]
-house_assoc conflicted absent z = elim z [ absent ↦ refl | unknown ↦ refl | conflicted ↦ refl | named j p ↦ refl ]
-house_assoc conflicted unknown z = elim z [ absent ↦ refl | unknown ↦ refl | conflicted ↦ refl | named j p ↦ refl ]
-house_assoc conflicted conflicted z = elim z [ absent ↦ refl | unknown ↦ refl | conflicted ↦ refl | named j p ↦ refl ]
-house_assoc conflicted (named k l) z =
-    elim z [ absent ↦ refl | unknown ↦ refl | conflicted ↦ refl | named j p ↦ names_meet House k j l p (λ c. conflicted ≡ meet House conflicted c) (λ e. refl) (λ e. refl) ]
-house_assoc (named n m) absent z = elim z [ absent ↦ refl | unknown ↦ refl | conflicted ↦ refl | named j p ↦ refl ]
-house_assoc (named n m) unknown z = elim z [ absent ↦ refl | unknown ↦ refl | conflicted ↦ refl | named j p ↦ refl ]
-house_assoc (named n m) conflicted z = elim z [ absent ↦ refl | unknown ↦ refl | conflicted ↦ refl | named j p ↦ refl ]
-house_assoc (named n m) (named k l) absent = absent_right (meet House (named n m) (named k l))
+house_assoc x absent z = cc (absent_left z)
+house_assoc x y absent = absent_right (meet House x y)
+house_assoc unknown (named k l) (named j p) = names_meet House k j l p (λ c. unknown ≡ meet House unknown c) (λ e. refl) (λ e. refl)
+house_assoc conflicted (named k l) (named j p) = names_meet House k j l p (λ c. conflicted ≡ meet House conflicted c) (λ e. refl) (λ e. refl)
 house_assoc (named n m) (named k l) unknown = names_meet House n k m l (λ c. meet House c unknown ≡ unknown) (λ e. refl) (λ e. refl)
 house_assoc (named n m) (named k l) conflicted = names_meet House n k m l (λ c. meet House c conflicted ≡ conflicted) (λ e. refl) (λ e. refl)
 house_assoc (named n m) (named k l) (named j p) = names_assoc House n k j m l p refl refl
+house_assoc x y z = refl
 
 -- the old rule: Absent yields to all, Conflicted wins over all
 old_idem : (x : Cell) → meet Old x x ≡ x
@@ -108,35 +103,37 @@ old_idem (named n m) = names_idem Old n m
 
 old_comm : (x y : Cell) → meet Old x y ≡ meet Old y x
 unfolding meet old_meet
-old_comm absent y = elim y [ absent ↦ refl | unknown ↦ refl | conflicted ↦ refl | named k l ↦ refl ]
-old_comm unknown y = elim y [ absent ↦ refl | unknown ↦ refl | conflicted ↦ refl | named k l ↦ refl ]
-old_comm conflicted y = elim y [ absent ↦ refl | unknown ↦ refl | conflicted ↦ refl | named k l ↦ refl ]
-old_comm (named n m) y = elim y [ absent ↦ refl | unknown ↦ refl | conflicted ↦ refl | named k l ↦ names_comm Old n k m l ]
+old_comm absent (named k l) = refl
+old_comm unknown (named k l) = refl
+old_comm conflicted (named k l) = refl
+old_comm (named n m) (named k l) = names_comm Old n k m l
+old_comm x y = refl
 
 absent_yields : (x : Cell) → meet Old absent x ≡ x
 unfolding meet old_meet
-absent_yields x = elim x [ absent ↦ refl | unknown ↦ refl | conflicted ↦ refl | named k l ↦ refl ]
+absent_yields absent = refl
+absent_yields unknown = refl
+absent_yields conflicted = refl
+absent_yields (named k l) = refl
 
 conflict_wins : (x : Cell) → meet Old conflicted x ≡ conflicted
 unfolding meet old_meet
-conflict_wins x = elim x [ absent ↦ refl | unknown ↦ refl | conflicted ↦ refl | named k l ↦ refl ]
+conflict_wins absent = refl
+conflict_wins unknown = refl
+conflict_wins conflicted = refl
+conflict_wins (named k l) = refl
 
 old_assoc : (x y z : Cell) → meet Old (meet Old x y) z ≡ meet Old x (meet Old y z)
 unfolding meet old_meet
 old_assoc absent y z = cc (absent_yields y, absent_yields (meet Old y z))
 old_assoc conflicted y z = cc (conflict_wins y, conflict_wins z, conflict_wins (meet Old y z))
-old_assoc unknown absent z = elim z [ absent ↦ refl | unknown ↦ refl | conflicted ↦ refl | named j p ↦ refl ]
-old_assoc unknown unknown z = elim z [ absent ↦ refl | unknown ↦ refl | conflicted ↦ refl | named j p ↦ refl ]
-old_assoc unknown conflicted z = elim z [ absent ↦ refl | unknown ↦ refl | conflicted ↦ refl | named j p ↦ refl ]
-old_assoc unknown (named k l) z =
-    elim z [ absent ↦ refl | unknown ↦ refl | conflicted ↦ refl | named j p ↦ names_meet Old k j l p (λ c. c ≡ meet Old unknown c) (λ e. refl) (λ e. refl) ]
-old_assoc (named n m) absent z = elim z [ absent ↦ refl | unknown ↦ refl | conflicted ↦ refl | named j p ↦ refl ]
-old_assoc (named n m) unknown z = elim z [ absent ↦ refl | unknown ↦ refl | conflicted ↦ refl | named j p ↦ refl ]
-old_assoc (named n m) conflicted z = elim z [ absent ↦ refl | unknown ↦ refl | conflicted ↦ refl | named j p ↦ refl ]
-old_assoc (named n m) (named k l) absent = names_meet Old n k m l (λ c. meet Old c absent ≡ c) (λ e. refl) (λ e. refl)
+old_assoc x absent z = cc (absent_yields z)
+old_assoc x y absent = cc (old_comm y absent, absent_yields y, old_comm (meet Old x y) absent, absent_yields (meet Old x y))
+old_assoc unknown (named k l) (named j p) = names_meet Old k j l p (λ c. c ≡ meet Old unknown c) (λ e. refl) (λ e. refl)
 old_assoc (named n m) (named k l) unknown = names_meet Old n k m l (λ c. meet Old c unknown ≡ c) (λ e. refl) (λ e. refl)
 old_assoc (named n m) (named k l) conflicted = names_meet Old n k m l (λ c. meet Old c conflicted ≡ conflicted) (λ e. refl) (λ e. refl)
 old_assoc (named n m) (named k l) (named j p) = names_assoc Old n k j m l p refl refl
+old_assoc x y z = refl
 
 -- either rule
 pub cell_idem : (rule : Rule) (x : Cell) → meet rule x x ≡ x
@@ -154,7 +151,10 @@ cell_assoc House = house_assoc
 -- a meet is one of its sides, unless both are names
 pub meet_keeps : (P : Cell → Type 0) → ((n k : Name) (m l : Bool) → P (named n m) → P (named k l) → P (meet House (named n m) (named k l))) → (x y : Cell) → P x → P y → P (meet House x y)
 unfolding meet house_meet
-meet_keeps P names absent y p q = elim y [ absent ↦ p | unknown ↦ p | conflicted ↦ p | named k l ↦ p ]
+meet_keeps P names absent absent p q = p
+meet_keeps P names absent unknown p q = p
+meet_keeps P names absent conflicted p q = p
+meet_keeps P names absent (named k l) p q = p
 meet_keeps P names unknown absent p q = q
 meet_keeps P names unknown unknown p q = p
 meet_keeps P names unknown conflicted p q = p
@@ -180,38 +180,35 @@ record Ordered (f : Cell → Cell) : Type 0 where
 ordered_spreads : (f : Cell → Cell) → Ordered f → Spreads (meet House) f
 unfolding meet house_meet
 ordered_spreads f p absent y = cc (absent_left y, p.on_absent y)
-ordered_spreads f p unknown y =
-    elim y [
-      | absent ↦ sym (p.on_absent unknown) ∙ house_comm (f absent) (f unknown)
-      | unknown ↦ sym (house_idem (f unknown))
-      | conflicted ↦ sym p.on_unknown
-      | named k l ↦ sym (p.over_unknown k l)
-    ]
-ordered_spreads f p conflicted y =
-    elim y [
-      | absent ↦ sym (p.on_absent conflicted) ∙ house_comm (f absent) (f conflicted)
-      | unknown ↦ sym p.on_unknown ∙ house_comm (f unknown) (f conflicted)
-      | conflicted ↦ sym (house_idem (f conflicted))
-      | named k l ↦ sym (p.over_conflicted k l)
-    ]
-ordered_spreads f p (named n m) y =
-    elim y [
-      | absent ↦ sym (p.on_absent (named n m)) ∙ house_comm (f absent) (f (named n m))
-      | unknown ↦ sym (p.over_unknown n m) ∙ house_comm (f unknown) (f (named n m))
-      | conflicted ↦ sym (p.over_conflicted n m) ∙ house_comm (f conflicted) (f (named n m))
-      | named k l ↦ names_meet House n k m l (λ c. f c ≡ meet House (f (named n m)) (f (named k l))) (λ e. cc (p.alike n m l)) (λ e. sym (p.apart n k m l e))
-    ]
+ordered_spreads f p unknown absent = sym (p.on_absent unknown) ∙ house_comm (f absent) (f unknown)
+ordered_spreads f p unknown unknown = sym (house_idem (f unknown))
+ordered_spreads f p unknown conflicted = sym p.on_unknown
+ordered_spreads f p unknown (named k l) = sym (p.over_unknown k l)
+ordered_spreads f p conflicted absent = sym (p.on_absent conflicted) ∙ house_comm (f absent) (f conflicted)
+ordered_spreads f p conflicted unknown = sym p.on_unknown ∙ house_comm (f unknown) (f conflicted)
+ordered_spreads f p conflicted conflicted = sym (house_idem (f conflicted))
+ordered_spreads f p conflicted (named k l) = sym (p.over_conflicted k l)
+ordered_spreads f p (named n m) absent = sym (p.on_absent (named n m)) ∙ house_comm (f absent) (f (named n m))
+ordered_spreads f p (named n m) unknown = sym (p.over_unknown n m) ∙ house_comm (f unknown) (f (named n m))
+ordered_spreads f p (named n m) conflicted = sym (p.over_conflicted n m) ∙ house_comm (f conflicted) (f (named n m))
+ordered_spreads f p (named n m) (named k l) = names_meet House n k m l (λ c. f c ≡ meet House (f (named n m)) (f (named k l))) (λ e. cc (p.alike n m l)) (λ e. sym (p.apart n k m l e))
 
 pub copied_spreads : Spreads (meet House) copied
 unfolding copied meet house_meet
 copied_spreads = ordered_spreads copied (record {
-  on_absent = λ y. elim y [ absent ↦ refl | unknown ↦ refl | conflicted ↦ refl | named k l ↦ refl ];
+  on_absent = on_absent;
   on_unknown = refl;
   over_unknown = λ n m. refl;
   over_conflicted = λ n m. refl;
   alike = λ n m l. sym (same_names House n m l);
   apart = other_names House;
 })
+  where
+    on_absent : (y : Cell) → meet House (copied absent) (copied y) ≡ copied absent
+    on_absent absent = refl
+    on_absent unknown = refl
+    on_absent conflicted = refl
+    on_absent (named k l) = refl
 
 -- either side of a decision: Conflicted, or what stands there
 pub overwritten_spreads : (to : Name) → Spreads (meet House) (overwritten to)
@@ -269,19 +266,29 @@ unfolding collected meet house_meet
 collected_spreads = ordered_spreads (collected House) (record {
   on_absent = λ y. absent_left (collected House y);
   on_unknown = refl;
-  over_unknown = λ n m. elim m [ true ↦ refl | false ↦ refl ];
-  over_conflicted = λ n m. elim m [ true ↦ refl | false ↦ refl ];
+  over_unknown = over_unknown;
+  over_conflicted = over_conflicted;
   alike = alike;
   apart = apart;
 })
   where
+    over_unknown : (n : Name) (m : Bool) → meet House unknown (collected House (named n m)) ≡ unknown
+    over_unknown n true = refl
+    over_unknown n false = refl
+
+    over_conflicted : (n : Name) (m : Bool) → meet House conflicted (collected House (named n m)) ≡ conflicted
+    over_conflicted n true = refl
+    over_conflicted n false = refl
+
     alike : (n : Name) (m l : Bool) → collected House (named n (m || l)) ≡ meet House (collected House (named n m)) (collected House (named n l))
-    alike n true l = elim l [ true ↦ refl | false ↦ refl ]
+    alike n true true = refl
+    alike n true false = refl
     alike n false true = refl
     alike n false false = sym (same_names House n false false)
 
     apart : (n k : Name) (m l : Bool) → ¬ (n ≡ k) → meet House (collected House (named n m)) (collected House (named k l)) ≡ conflicted
-    apart n k true l h = elim l [ true ↦ refl | false ↦ refl ]
+    apart n k true true h = refl
+    apart n k true false h = refl
     apart n k false true h = refl
     apart n k false false h = other_names House n k false false h
 
