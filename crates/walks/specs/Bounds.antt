@@ -45,8 +45,16 @@ Occurs House c = Present c
 
 height_high : (rule : Rule) (x : Cell) → height rule x ≤ top rule
 unfolding height top
-height_high Old x = elim x [ absent ↦ omega arith | unknown ↦ omega arith | conflicted ↦ omega arith | named n m ↦ elim m [ true ↦ omega arith | false ↦ omega arith ] ]
-height_high House x = elim x [ absent ↦ omega arith | unknown ↦ omega arith | conflicted ↦ omega arith | named n m ↦ elim m [ true ↦ omega arith | false ↦ omega arith ] ]
+height_high Old absent = omega arith
+height_high Old unknown = omega arith
+height_high Old conflicted = omega arith
+height_high Old (named n true) = omega arith
+height_high Old (named n false) = omega arith
+height_high House absent = omega arith
+height_high House unknown = omega arith
+height_high House conflicted = omega arith
+height_high House (named n true) = omega arith
+height_high House (named n false) = omega arith
 
 -- the meet of two names is the same under both rules
 names_fall : (rule : Rule) (n k : Name) (m l : Bool) → ¬ (meet_names n m k l ≡ named n m) → height rule (meet_names n m k l) < height rule (named n m)
@@ -65,12 +73,16 @@ names_fall rule n k m l = go (name_same n k) m l rule
 
 house_falls : (x y : Cell) → Present x → Present y → ¬ (house_meet x y ≡ x) → height House (house_meet x y) < height House x
 unfolding house_meet height
+house_falls absent y a b h = elim a [ ]
+house_falls unknown absent a b h = elim b [ ]
 house_falls unknown unknown a b h = absurd (h refl)
 house_falls unknown conflicted a b h = absurd (h refl)
 house_falls unknown (named k l) a b h = absurd (h refl)
+house_falls conflicted absent a b h = elim b [ ]
 house_falls conflicted unknown a b h = omega arith
 house_falls conflicted conflicted a b h = absurd (h refl)
 house_falls conflicted (named k l) a b h = absurd (h refl)
+house_falls (named n m) absent a b h = elim b [ ]
 house_falls (named n true) unknown a b h = omega arith
 house_falls (named n false) unknown a b h = omega arith
 house_falls (named n true) conflicted a b h = omega arith
@@ -89,7 +101,10 @@ old_falls unknown unknown h = absurd (h refl)
 old_falls unknown conflicted h = omega arith
 old_falls unknown (named k true) h = omega arith
 old_falls unknown (named k false) h = omega arith
-old_falls conflicted y h = absurd (h (elim y [ absent ↦ refl | unknown ↦ refl | conflicted ↦ refl | named k l ↦ refl ]))
+old_falls conflicted absent h = absurd (h refl)
+old_falls conflicted unknown h = absurd (h refl)
+old_falls conflicted conflicted h = absurd (h refl)
+old_falls conflicted (named k l) h = absurd (h refl)
 old_falls (named n m) absent h = absurd (h refl)
 old_falls (named n m) unknown h = absurd (h refl)
 old_falls (named n true) conflicted h = omega arith
@@ -135,24 +150,33 @@ present_keeps : (ref : Name → Bool) → HouseKeeps Present ref (λ from to. Un
 unfolding copied overwritten house_changed collected
 present_keeps ref = record {
   on_unknown = tt;
-  on_copied = λ c p. elim c [ absent ↦ tt | unknown ↦ tt | conflicted ↦ tt | named n m ↦ tt ];
+  on_copied = copies;
   on_overwritten = overwrites;
   on_changed = λ from to ok c p. changes from to c p;
   on_collected = collects;
   on_defined = λ n. tt;
 }
   where
+    copies : (c : Cell) → Present c → Present (copied c)
+    copies absent p = tt
+    copies unknown p = tt
+    copies conflicted p = tt
+    copies (named n m) p = tt
+
     overwrites : (n : Name) (c : Cell) → Present c → Present (overwritten n c)
+    overwrites n absent p = elim p [ ]
     overwrites n unknown p = tt
     overwrites n conflicted p = tt
     overwrites n (named k l) p = elim (name_same k n) as (λ d. Present (pick d conflicted (named k l))) [ yes e ↦ tt | no e ↦ tt ]
 
     changes : (from to : Name) (c : Cell) → Present c → Present (house_changed from to c)
+    changes from to absent p = elim p [ ]
     changes from to unknown p = tt
     changes from to conflicted p = tt
     changes from to (named k l) p = elim (name_same k from) as (λ d. Present (pick d (named to l) conflicted)) [ yes e ↦ tt | no e ↦ tt ]
 
     collects : (c : Cell) → Present c → Present (collected House c)
+    collects absent p = elim p [ ]
     collects unknown p = tt
     collects conflicted p = tt
     collects (named k true) p = tt

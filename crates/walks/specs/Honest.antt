@@ -48,21 +48,25 @@ module _ (ref : Name → Bool) where
   }
     where
       copies : (c : Cell) → Proper ref c → Proper ref (copied c)
+      copies absent p = elim p [ ]
       copies unknown p = tt
       copies conflicted p = tt
       copies (named k l) p = p
 
       overwrites : (n : Name) (c : Cell) → Proper ref c → Proper ref (overwritten n c)
+      overwrites n absent p = elim p [ ]
       overwrites n unknown p = tt
       overwrites n conflicted p = tt
       overwrites n (named k l) p = elim (name_same k n) as (λ d. Proper ref (pick d conflicted (named k l))) [ yes e ↦ tt | no e ↦ p ]
 
       changes : (from to : Name) → SameType ref from to → (c : Cell) → Proper ref c → Proper ref (house_changed from to c)
+      changes from to t absent p = elim p [ ]
       changes from to t unknown p = tt
       changes from to t conflicted p = tt
       changes from to t (named k l) p = elim (name_same k from) as (λ d. Proper ref (pick d (named to l) conflicted)) [ yes e ↦ cc | no e ↦ tt ]
 
       collects : (c : Cell) → Proper ref c → Proper ref (collected House c)
+      collects absent p = elim p [ ]
       collects unknown p = tt
       collects conflicted p = tt
       collects (named k true) p = tt
@@ -85,19 +89,26 @@ module _ (ref : Name → Bool) where
 
   height_high : (x : Cell) → height x ≤ 2
   unfolding height
-  height_high x = elim x [ absent ↦ omega arith | unknown ↦ omega arith | conflicted ↦ omega arith | named n m ↦ omega arith ]
+  height_high absent = omega arith
+  height_high unknown = omega arith
+  height_high conflicted = omega arith
+  height_high (named n m) = omega arith
 
   proper_meet : (x y : Cell) → Proper ref x → Proper ref y → Proper ref (meet House x y)
   proper_meet = meet_keeps (Proper ref) (λ n k m l p q. names_meet House n k m l (Proper ref) (λ e. cc (or_self m)) (λ e. tt))
 
   proper_falls : (x y : Cell) → Proper ref x → Proper ref y → ¬ (meet House x y ≡ x) → height (meet House x y) < height x
   unfolding meet house_meet height
+  proper_falls absent y p q h = elim p [ ]
+  proper_falls unknown absent p q h = elim q [ ]
   proper_falls unknown unknown p q h = absurd (h refl)
   proper_falls unknown conflicted p q h = absurd (h refl)
   proper_falls unknown (named k l) p q h = absurd (h refl)
+  proper_falls conflicted absent p q h = elim q [ ]
   proper_falls conflicted unknown p q h = omega arith
   proper_falls conflicted conflicted p q h = absurd (h refl)
   proper_falls conflicted (named k l) p q h = absurd (h refl)
+  proper_falls (named n m) absent p q h = elim q [ ]
   proper_falls (named n m) unknown p q h = omega arith
   proper_falls (named n m) conflicted p q h = omega arith
   proper_falls (named n m) (named k l) p q h =

@@ -39,6 +39,7 @@ module _ {A : Type 0} (F : Flow A) where
 
     still_waits : (b c : ℕ) (queue : List ℕ) → In c queue → (c ≡ b) ⊎ In c (without b queue)
     unfolding without
+    still_waits b c [] i = elim i [ ]
     still_waits b c (d ∷ queue) i = go (ℕ_discrete d b) i (λ j. still_waits b c queue j)
       where
         go : (e : Dec (d ≡ b)) → In c (d ∷ queue) → (In c queue → (c ≡ b) ⊎ In c (without b queue)) → (c ≡ b) ⊎ In c (pick e queue (d ∷ without b queue))
