@@ -1,6 +1,6 @@
 -- Rows and states: the steps of the loops, and what two rows make of a state.
 use mathlib.Core.Path.{◌≡◌, refl, sym, ap, ap₂, ◌∙◌}
-use mathlib.Core.Bool.{Bool, true, false, cond, ◌&&◌, ◌||◌, or-true, or-false}
+use mathlib.Core.Bool.{Bool, true, false, cond, ◌&&◌, or-true, or-false}
 use mathlib.Core.List.{List, [], ◌∷◌, map}
 use Prim.Native.Nat.{ℕ, zero, suc, ◌+◌, ◌-◌, ◌/◌, ◌%◌, ◌^◌, ◌≤◌, ◌<◌}
 use native.Mathlib.Nat.{zero-add, pow-suc, div-div-eq-div-mul, mul_comm, div-one, pow-zero, add-zero, add-suc}
@@ -11,23 +11,22 @@ use lib.Dec.{eqb}
 use lib.ListN.{length, get_or, set, take, length-take, length-map, replicate}
 use lib.Seq.{set-get_or}
 use Rattle.lists.specs.Over.{over, over_none, over_more, getD_over_in, getD_over_above}
-use Rattle.lists.specs.Region.{region, length_region, getD_region, region_below, region_above, filled}
-use Rattle.lists.specs.Maps.{any_step, map_set, map_take, take_over, region_over, copied_over}
-use Rattle.lists.specs.Kept.{Kept, kept_over, kept_then}
+use Rattle.lists.specs.Region.{region, getD_region, filled}
+use Rattle.lists.specs.Maps.{any_step, map_set, map_take, take_over}
 use Rattle.lists.specs.Regions.{All}
 use Rattle.lists.specs.Bits.{bits_from, set_bits, bits_above, no_bits}
 use Rattle.lists.specs.Split.{by_equal, and_left, and_right, or_left, or_right}
 use Rattle.paper.specs.Text.{Name, real}
-use Rattle.paper.specs.Sheet.{Sheet, listed}
+use Rattle.paper.specs.Sheet.{listed}
 use Rattle.paper.specs.Cells.{Cell, absent, named}
 use Rattle.paper.specs.Cells as paper
-use Rattle.paper.specs.Steps.{cell_at, store_at, everywhere, by_place, safepoint_row, row_of, unfilled, entry_state, unreached_state, counts_of, unfilled_rows, entry_rows}
-use Rattle.paper.specs.Runs.{pointwise, meet_states}
+use Rattle.paper.specs.Steps.{cell_at, store_at, by_place, row_of, unfilled}
+use Rattle.paper.specs.Runs.{pointwise}
 use Rattle.paper.specs.declared.Rule.{Rule}
 use Rattle.paper.specs.declared.Rule.TheVariants.{Old, House}
 use Rattle.cells.specs.Packed.{name_of_word, marked, of_kind, cell_of}
 use Rattle.cells.specs.Meeting.{meet_word}
-use Rattle.cells.specs.States.{cells_of, state_of, rows_at, stored_state, changes, Stays, meet_at, MetWith, Stored}
+use Rattle.cells.specs.States.{cells_of, state_of, changes, Stays, meet_at}
 use Rattle.cells.specs.Laws.{made, cell_in, state_cell, state_store}
 use Rattle.cells.proofs.Laws.{met_meaning, met_moves}
 

@@ -1,13 +1,13 @@
 -- What becomes of a state when its rows are changed one after the other: of one by value, and of one that stands in lent words.
 -- Each law is by induction on the counts, so that none knows how many rows there are.
 use mathlib.Core.Path.{◌≡◌, refl, sym, ap, ap₂, ◌∙◌}
-use mathlib.Core.Bool.{Bool, true, false, cond, ◌||◌, true≢false}
+use mathlib.Core.Bool.{Bool, false, cond, ◌||◌, true≢false}
 use mathlib.Core.List.{List, [], ◌∷◌, map}
-use Prim.Native.Nat.{ℕ, zero, suc, ◌+◌, ◌≤◌, ◌<◌}
+use Prim.Native.Nat.{ℕ, zero, suc, ◌+◌, ◌≤◌}
 use native.Mathlib.Omega.{arith}
-use lib.ListN.{length, get_or, set, take, length-take, length-map, replicate}
+use lib.ListN.{length, get_or, set, take, replicate}
 use Rattle.lists.specs.Over.{over, over_none}
-use Rattle.lists.specs.Region.{region, length_region, region_above, same_region}
+use Rattle.lists.specs.Region.{region, length_region, same_region}
 use Rattle.lists.specs.Maps.{any_step, region_over, copied_over}
 use Rattle.lists.specs.Kept.{Kept, kept_same, kept_over, kept_then}
 use Rattle.lists.specs.Bits.{set_bits}
@@ -55,6 +55,8 @@ unfolding state_of
 length_state [] [] s h = omega arith
 length_state (width ∷ widths) (n ∷ counts) [] h = omega arith
 length_state (width ∷ widths) (n ∷ counts) (x ∷ s) h = let l = length_state widths counts s h.1 in omega arith
+length_state [] (n ∷ counts) s h = elim h [ ]
+length_state (width ∷ widths) [] s h = elim h [ ]
 
 -- all rows
 pub rows_done : {counts : List ℕ} {f : ℕ → List Cell → List Cell} {s₀ s : List (List ℕ)} → RowsFit counts
@@ -99,6 +101,8 @@ unfilled_state rule w e (width ∷ widths) (n ∷ counts) h b =
     ap₂ (λ (a : List Cell) (t : State). a ∷ t)
     (cells_same n row_words w (b 0) ∙ ap (replicate n) e)
     (unfilled_state rule w e widths counts h.1 (λ k. b (suc k)))
+unfilled_state rule w e [] (n ∷ counts) h b = elim h [ ]
+unfilled_state rule w e (width ∷ widths) [] h b = elim h [ ]
 
 pub entered : (rule : Rule) (counts : List ℕ) (s : List (List ℕ)) (row : List ℕ) (n : ℕ) → get_or counts 0 0 ≡ n → state_of counts s ≡ unfilled_rows rule counts
     → cells_of n row ≡ row_of n (λ i. named (real i) false) → state_of counts (set s 0 row) ≡ entry_rows rule counts
@@ -124,6 +128,10 @@ unfolding state_of rows_at cells_of region
 rows_loaded [] [] at w [] h l = refl
 rows_loaded (width ∷ widths) (n ∷ counts) at w (row ∷ rows) h l =
     ap₂ (λ (a : List ℕ) (t : State). map cell_of a ∷ t) (l.0 n h.0) (rows_loaded widths counts (at + width) w rows h.1 l.1)
+rows_loaded [] [] at w (row ∷ rows) h l = elim l [ ]
+rows_loaded [] (n ∷ counts) at w rows h l = elim h [ ]
+rows_loaded (width ∷ widths) [] at w rows h l = elim h [ ]
+rows_loaded (width ∷ widths) (n ∷ counts) at w [] h l = elim l [ ]
 
 -- rows laid over the words one after the other, each word by f of its row, its place and itself
 pub data RowsOver (f : List ℕ → ℕ → ℕ → ℕ) : List ℕ → List ℕ → ℕ → List (List ℕ) → List ℕ → List ℕ → Type 0 where

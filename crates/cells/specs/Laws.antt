@@ -97,6 +97,8 @@ pub narrow_at : (widths counts : List ℕ) → Narrow widths counts → (k : ℕ
 narrow_at [] [] h k = omega arith
 narrow_at (width ∷ widths) (n ∷ counts) h zero = h.0
 narrow_at (width ∷ widths) (n ∷ counts) h (suc k) = narrow_at widths counts h.1 k
+narrow_at [] (n ∷ counts) h k = elim h [ ]
+narrow_at (width ∷ widths) [] h k = elim h [ ]
 
 -- rows whose words stay, and a state whose words do
 pub rows_stay : (widths counts : List ℕ) (at : ℕ) (words words' : List ℕ) → length words' ≡ length words → Narrow widths counts → at + total widths ≤ length words
@@ -107,6 +109,8 @@ rows_stay (width ∷ widths) (n ∷ counts) at words words' e narrow fits same =
     ap₂ ◌∷◌
     (ap (map cell_of) (same_region at n words words' (omega arith) e (λ k h. same (at + k) (omega arith) (omega arith))))
     (rows_stay widths counts (at + width) words words' e narrow.1 (omega arith) (λ i h l. same i (omega arith) (omega arith)))
+rows_stay [] (n ∷ counts) at words words' e narrow fits same = elim narrow [ ]
+rows_stay (width ∷ widths) [] at words words' e narrow fits same = elim narrow [ ]
 
 pub stored_stays : (counts : List ℕ) (at : ℕ) (words words' : List ℕ) → length words' ≡ length words → RowsFit counts → at + state_words ≤ length words
     → ((i : ℕ) → at ≤ i → i < at + state_words → get_or words' i 0 ≡ get_or words i 0) → stored_state counts at words' ≡ stored_state counts at words

@@ -1,7 +1,7 @@
 -- Document 02, A3: "sealed reports: the report as it is, then a line of `K`, a tab and eight lowercase hex digits, the CRC-32 of ITU-T V.42
 -- (reflected polynomial EDB88320, start and final inversion all ones) over all bytes before that line"; "the reader that verifies a seal and
 -- says good, wrong word, or no seal line"; and the call that leaves a sealed report.
-use Rattle.std.specs.Prelude.{Bool, true, cond, ◌&&◌, ◌||◌, List, [], ◌∷◌, ◌++◌, ℕ, zero, suc, ◌+◌, ◌-◌, ◌*◌, ◌/◌, ◌%◌, ◌^◌, eqb, leb, ltb, length, take, drop, get_or}
+use Rattle.std.specs.Prelude.{Bool, true, cond, ◌&&◌, ◌||◌, [], ◌∷◌, ◌++◌, ℕ, zero, suc, ◌+◌, ◌-◌, ◌*◌, ◌/◌, ◌%◌, ◌^◌, eqb, leb, ltb, length, take, drop, get_or}
 use Prim.Native.Char.{code}
 use Rattle.std.specs.Int.Bits.{bit_xor, differ}
 use Rattle.paper.specs.Text.{Bytes, tab, line_feed, is_digit}

@@ -4,7 +4,7 @@ use Rattle.std.specs.Prelude.{Bool, true, false, cond, List, [], ◌∷◌, ◌+
 use Rattle.std.proofs.Math.Option.{Option, none, some}
 use Prim.Native.Char.{code}
 use Rattle.paper.specs.Text.{Bytes, digits, name_text}
-use Rattle.paper.specs.Sheet.{Operand, Step, spill, reload, move, change, operation, safepoint, Block, Sheet}
+use Rattle.paper.specs.Sheet.{Operand, spill, reload, move, change, operation, safepoint, Block, Sheet}
 use Rattle.paper.specs.Refusals.{Record, function_record, typed_record, block_record, step_record, Reading, loaded, refused, read}
 use Rattle.paper.specs.Report.{nothing, behind_tabs}
 use Rattle.paper.specs.Answer.{laid}

@@ -1,6 +1,6 @@
 -- The number of visits that a run makes before its queue is empty: there is one, it is the only one, and it stays within the bound.
 use Rattle.std.specs.Prelude.{◌≡◌, refl, ◌⊎◌}
-use Rattle.std.proofs.Common.{sym, ◌∙◌, subst}
+use Rattle.std.proofs.Common.{sym, ◌∙◌}
 use Rattle.std.proofs.Math.Path.{ap}
 use Rattle.std.proofs.Math.Logic.{inl, inr, ⊎_elim}
 use mathlib.Core.List.{List, [], ◌∷◌, nil≢cons}

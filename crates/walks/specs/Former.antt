@@ -13,7 +13,7 @@ use Rattle.paper.specs.Cells.{pick}
 use Rattle.paper.specs.Steps.{State}
 use Rattle.paper.specs.Runs.{Flow, Run, update, store, push_at, push, spread, visit_at, step_at, step, run, flow, before, begin, visit_bound, analysis}
 use Rattle.paper.specs.Refusals.{Reading, loaded, refused, read}
-use Rattle.paper.specs.Report.{Line, block_faults, Entry, fault_entry, entries_at, block_entries, by_block, find_errors, first_list, missing_allocations, entries, faults_in, line_text, entry_text, lines_text, header_text, report_text}
+use Rattle.paper.specs.Report.{Line, block_faults, Entry, fault_entry, entries_at, block_entries, by_block, find_errors, first_list, missing_allocations, entries, line_text, entry_text, lines_text, header_text, report_text}
 use Rattle.paper.specs.Answer.{Said, accepted, faulty, turned_away, said_by, said_of, said_after, answer}
 use Rattle.paper.specs.declared.Rule.{Rule}
 use Rattle.paper.specs.declared.Rule.TheVariants.{Old}

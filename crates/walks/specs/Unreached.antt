@@ -1,9 +1,9 @@
 -- A line `N b` stands in the house report exactly when no allocation is missing, b is a block, and no walk comes to it: the run visits
 -- the blocks that walks come to, and no other.
 use Rattle.std.specs.Prelude.{◌≡◌, refl, ◌↔◌, ℕ, ◌<◌}
-use Rattle.std.proofs.Common.{sym, ap, arith}
+use Rattle.std.proofs.Common.{sym, arith}
 use Rattle.std.proofs.Math.Path.{subst}
-use mathlib.Core.List.{List, [], ◌∷◌, map, map-eq-nil_iff}
+use mathlib.Core.List.{List, [], ◌∷◌, map}
 use Rattle.std.proofs.Math.Option.{Option, none, some}
 use Rattle.paper.specs.Sheet.{Sheet, steps_of}
 use Rattle.paper.specs.Steps.{State}
