@@ -17,8 +17,8 @@ use Rattle.layout.specs.Layout.{regs_word, slots_word, vregs_word, blocks_word, 
 use Rattle.loaded.specs.Filling.{BlockWithin, Begun, StepFits, RecordStored}
 use Rattle.loaded.specs.Actions.{step_of, action_at, steps_at}
 use Rattle.loaded.specs.declared.Action.{Action}
-use Rattle.loaded.specs.Loaded.{first_step, step_total, succ_total, block_at, blocks_at, marked_from, sheet_of, BlockBounds, StepBounds, Bounds}
-use Rattle.loaded.specs.Laws.{room_within}
+use Rattle.loaded.specs.Loaded.{counts_in, first_step, step_total, succ_total, block_at, blocks_at, marked_from, sheet_of, BlockBounds, StepBounds, Bounds}
+use Rattle.loaded.specs.Laws.{MayStand, room_within}
 use Rattle.loaded.specs.Same.{SameOperands, SameSteps, same_action, same_step, same_within, same_honest, steps_more, length_steps}
 use Rattle.loaded.specs.Blocks.{SameHead, SameLinks, same_typed, same_references, kept_steps, kept_step_bounds, same_first, same_succs, kept_links, kept_block_bounds, kept_blocks, blocks_more, add_step_last, step_count_more}
 
@@ -273,7 +273,7 @@ module _ (l m : List ℕ) (begun : Begun l) (b : ℕ) (last : b + 1 ≡ get_or l
 
   new_step : step_of m (action_at m k) ≡ step_of l action
   unfolding k
-  new_step = rw w.says (same_step (step_operands (k + 1)) k (omega arith) action fits.packs (room_within _ _ l action fits.ranged))
+  new_step = rw w.says (same_step (step_operands (k + 1)) k (omega arith) action fits.packs (room_within (counts_in l) (MayStand (counts_in l)) l action fits.ranged))
 
   new_bounds : StepBounds m k
   unfolding k
@@ -281,10 +281,10 @@ module _ (l m : List ℕ) (begun : Begun l) (b : ℕ) (last : b + 1 ≡ get_or l
       let regs : get_or m regs_word 0 ≡ get_or l regs_word 0 = w.head regs_word (omega arith) (λ e. omega arith) in
       let slots : get_or m slots_word 0 ≡ get_or l slots_word 0 = w.head slots_word (omega arith) (λ e. omega arith) in
       record {
-        ranged = rw (regs, slots, w.says) (same_within (step_operands (k + 1)) k (omega arith) _ _ action fits.packs fits.ranged);
+        ranged = rw (regs, slots, w.says) (same_within (step_operands (k + 1)) k (omega arith) (counts_in l) (MayStand (counts_in l)) action fits.packs fits.ranged);
         honest = rw w.says
             (same_honest (step_operands (k + 1)) k (omega arith) _ _ (same_references begun.bounds step_head step_steps) action fits.packs
-            (room_within _ _ l action fits.ranged) fits.honest);
+            (room_within (counts_in l) (MayStand (counts_in l)) l action fits.ranged) fits.honest);
       }
 
   -- the step stands behind those of the last block

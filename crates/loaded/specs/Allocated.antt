@@ -39,7 +39,7 @@ module _ {words : List ℕ} (L : Loaded words) (b : ℕ) (h : b < get_or words b
   in_range_at e place hp =
       let z : 0 + b ≡ b = omega arith in
       let none = rw (z, steps_in_words words b opened_block) at (block_none (sheet_of words) 0 b _ h e) in
-      allocated _ words _ (L.bounds.each_step (first_step words b + place) (step_below place hp)).ranged
+      allocated (counts_in words) words _ (L.bounds.each_step (first_step words b + place) (step_below place hp)).ranged
       (step_none words b 0 (first_step words b) place (step_total words b) hp none)
 
   pub honest_at : (place : ℕ) → place < step_total words b

@@ -8,8 +8,8 @@ use Rattle.paper.specs.Sheet.{Step, Block, no_block, succs_of, steps_of, referen
 use Rattle.paper.specs.Refusals.{add_step, step_count}
 use Rattle.layout.specs.Layout.{regs_word, slots_word, blocks_word, opened_word, steps_word, typed_base, typed_words, block_base, step_total_word, succ_total_word, succs_from, block_words, succ_base, all_words}
 use Rattle.loaded.specs.Actions.{step_of, action_at, steps_at}
-use Rattle.loaded.specs.Loaded.{first_step, step_total, succ_total, block_at, blocks_at, sheet_of, BlockBounds, StepBounds, Bounds}
-use Rattle.loaded.specs.Laws.{room_within}
+use Rattle.loaded.specs.Loaded.{counts_in, first_step, step_total, succ_total, block_at, blocks_at, sheet_of, BlockBounds, StepBounds, Bounds}
+use Rattle.loaded.specs.Laws.{MayStand, room_within}
 use Rattle.loaded.specs.Same.{SameSteps, packs_at, same_action, same_step, same_within, same_honest, steps_alike}
 
 -- a run of blocks
@@ -98,7 +98,7 @@ module _ {l m : List ℕ} (bounds : Bounds l) (head : SameHead l m) (steps : Sam
   kept_step : (k : ℕ) → k < get_or l steps_word 0 → step_of m (action_at m k) ≡ step_of l (action_at l k)
   kept_step k h =
       rw (same_action steps k h)
-      (same_step steps.operands k h (action_at l k) (packs_at l k) (room_within _ _ l (action_at l k) (bounds.each_step k h).ranged))
+      (same_step steps.operands k h (action_at l k) (packs_at l k) (room_within (counts_in l) (MayStand (counts_in l)) l (action_at l k) (bounds.each_step k h).ranged))
 
   pub kept_steps : (k n : ℕ) → k + n ≤ get_or l steps_word 0 → steps_at m k n ≡ steps_at l k n
   kept_steps k n h = steps_alike l m k n λ i p q. kept_step i (omega arith)
@@ -109,9 +109,9 @@ module _ {l m : List ℕ} (bounds : Bounds l) (head : SameHead l m) (steps : Sam
       let regs : get_or m regs_word 0 ≡ get_or l regs_word 0 = head.words regs_word (omega arith) (λ q. omega arith) (λ q. omega arith) in
       let slots : get_or m slots_word 0 ≡ get_or l slots_word 0 = head.words slots_word (omega arith) (λ q. omega arith) (λ q. omega arith) in
       record {
-        ranged = rw (regs, slots, same_action steps k h) (same_within steps.operands k h _ _ (action_at l k) (packs_at l k) old.ranged);
+        ranged = rw (regs, slots, same_action steps k h) (same_within steps.operands k h (counts_in l) (MayStand (counts_in l)) (action_at l k) (packs_at l k) old.ranged);
         honest = rw (same_action steps k h)
-            (same_honest steps.operands k h _ _ same_references (action_at l k) (packs_at l k) (room_within _ _ l (action_at l k) old.ranged) old.honest);
+            (same_honest steps.operands k h _ _ same_references (action_at l k) (packs_at l k) (room_within (counts_in l) (MayStand (counts_in l)) l (action_at l k) old.ranged) old.honest);
       }
 
   module _ (b : ℕ) (h : b < get_or l opened_word 0) (same : SameLinks l m b) where

@@ -47,6 +47,10 @@ room_within counts Register l (Change inst slot from to) w = tt
 room_within counts Register l (Operation inst at uses defs) w = (w.0, w.1, w.2)
 room_within counts Register l (Safepoint inst mask) w = tt
 
+-- what stands for a register as a sheet is read: one below the count, or none
+abbrev pub MayStand : List ℕ → ℕ → Type 0
+MayStand counts r = (r < get_or counts 0 0) ⊎ (r ≡ no_register)
+
 -- where no allocation is missing, no register is none
 pub both_none : {A : Type 0} (a b : List A) → first_list a b ≡ [] → (a ≡ []) × (b ≡ [])
 unfolding first_list

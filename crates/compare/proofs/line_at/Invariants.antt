@@ -1,0 +1,14 @@
+-- `line_at` meets its contract: before each turn the shapes from k on decide (`Rowing`).
+use mathlib.Core.Path.{sym, ◌∙◌}
+use Prim.Native.Nat.{◌-◌}
+use native.Mathlib.Omega.{arith}
+use Rattle.compare.proofs.LawsLine.{Rowing, rowing_first, eight, row_good, row_bad, no_row}
+use Rattle.compare.specs.Places.{codes_of_lines}
+use borrow.Author.Rules.{rules}
+use Rattle.compare.proofs.line_at.Given as goal
+
+abbrev pub invariant-loop-k : goal.invariant-loop-k
+invariant-loop-k l = Rowing l.s l.at l.k
+
+abbrev pub decreases-loop-k : goal.decreases-loop-k
+decreases-loop-k l = 7 - l.k

@@ -1,0 +1,13 @@
+-- `unreached_at` meets its contract: the two codes are the two fields' shapes (`unreached_codes`).
+use mathlib.Core.Path.{◌∙◌, ap}
+use mathlib.Core.Bool.{Bool}
+use Rattle.compare.specs.Places.{line_place}
+use Rattle.compare.proofs.LawsLine.{unreached_codes}
+use borrow.Author.Rules.{rules}
+use Rattle.compare.proofs.unreached_at.Goals as goal
+
+pub returns : goal.returns
+returns c =
+    let a = c.args in
+    let s = a.s.now in
+    record { value = c.line_of.ensures.value ∙ ap (λ (good : Bool). line_place good s a.at) (unreached_codes s a.at); within = c.line_of.ensures.within }

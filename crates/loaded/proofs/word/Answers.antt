@@ -1,0 +1,11 @@
+-- `word` meets its contract: a word has 16 bits, so the cast keeps its number.
+use mathlib.Core.Path.{refl}
+use native.Mathlib.Omega.{arith}
+use borrow.Author.Rules.{rules}
+use Rattle.loaded.proofs.word.Goals as goal
+
+pub overflow_cast-result : goal.overflow_cast-result
+overflow_cast-result c = omega (arith, c.shared_slice_known-1.given c.args.i)
+
+pub returns : goal.returns
+returns c = (refl, omega (arith, c.shared_slice_known-1.given c.args.i))
