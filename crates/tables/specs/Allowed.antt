@@ -24,6 +24,7 @@ record Found (a : ℕ) (l : List ℕ) : Type 0 where
 found : (a : ℕ) (l : List ℕ) → In a l → Found a l
 found a (x ∷ l) (here e) = record { place = 0; inside = omega arith; is = sym e }
 found a (x ∷ l) (there i) = let f = found a l i in record { place = suc f.place; inside = omega (arith, f.inside); is = f.is }
+found a [] x' = elim x' [ ]
 
 pub loaded_closed : {words : List ℕ} → Loaded words → Closed (sheet_of words)
 unfolding sheet_of

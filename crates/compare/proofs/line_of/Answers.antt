@@ -2,6 +2,7 @@ use mathlib.Core.Path.{sym, ◌∙◌}
 use Prim.Native.Nat.{◌-◌}
 use lib.ListN.{length}
 use native.Mathlib.Omega.{arith}
+use borrow.Enum.Refused.{opened}
 use Rattle.compare.proofs.Laws.{no_feed}
 use Rattle.compare.proofs.LawsLine.{Lining, line_misfit, lining_first, lining_bad, lining_more, line_closed, line_open}
 use borrow.Author.Rules.{rules}
@@ -41,4 +42,4 @@ returns-in-LineFeed c =
     record { value = line_closed w c.loop-i-test.false told.1; within = (w.further, told.0) }
 
 pub returns-in_default-ends : goal.returns-in_default-ends
-returns-in_default-ends c = record { value = line_open c.loop-i.invariant c.loop-i-test.false (no_feed _ _ c.ends.result c.ends.ensures.within c.in_default-ends.in_default-ends-own.keys2); within = tt }
+returns-in_default-ends c = record { value = line_open c.loop-i.invariant c.loop-i-test.false (no_feed _ _ c.ends.result c.ends.ensures.within (opened c.in_default-ends.in_default-ends-own.keys2)); within = tt }

@@ -5,6 +5,7 @@ use lib.ListN.{length, get_or}
 use Rattle.fields.specs.Fields.{ends_field}
 use Rattle.fields.specs.Cursor.{field_past, field_stop}
 use native.Mathlib.Omega.{arith}
+use borrow.Enum.Refused.{opened}
 use Rattle.compare.proofs.Laws.{inner, stopped, Texting, texting_first, text_past, text_ended, text_other, texting_more, text_good, text_longer}
 use borrow.Author.Rules.{rules}
 use Rattle.compare.proofs.text_at.Goals as goal
@@ -14,7 +15,7 @@ loop-i-init c = texting_first _ _ _ c.requires
 
 pub returns-in_default : goal.returns-in_default
 returns-in_default c =
-    let e = stopped _ _ c.ends.result c.ends.ensures.within c.in_default.in_default-own.keys2 in
+    let e = stopped _ _ c.ends.result c.ends.ensures.within (opened c.in_default.in_default-own.keys2) in
     record { value = text_ended c.loop-i.invariant c.loop-i-test.true e.0 e.1; within = tt }
 
 pub returns-then-s-next : goal.returns-then-s-next
@@ -42,5 +43,5 @@ returns-in-Neither-ends c =
 pub returns-in_default-ends : goal.returns-in_default-ends
 returns-in_default-ends c =
     let w = c.loop-i.invariant in
-    let s = stopped _ _ c.ends-2.result c.ends-2.ensures.within c.in_default-ends.in_default-ends-own.keys2 in
+    let s = stopped _ _ c.ends-2.result c.ends-2.ensures.within (opened c.in_default-ends.in_default-ends-own.keys2) in
     record { value = text_good w c.loop-i-test.false (field_stop _ _ s.0 s.1); within = (w.further, w.within) }

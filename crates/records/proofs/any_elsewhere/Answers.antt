@@ -1,0 +1,22 @@
+use mathlib.Core.Path.{◌≡◌, refl, sym, ◌∙◌}
+use Prim.Native.Nat.{◌-◌}
+use lib.ListN.{drop}
+use Rattle.paper.specs.Refusals.{any, elsewhere}
+use Rattle.records.specs.Parts.{held}
+use Rattle.records.proofs.LawsGroups.{held_past, held_here, held_on}
+use borrow.Author.Rules.{rules}
+use Rattle.records.proofs.any_elsewhere.Goals as goal
+
+pub loop-i-init : goal.loop-i-init
+loop-i-init c = refl
+
+pub returns-then-is_elsewhere : goal.returns-then-is_elsewhere
+returns-then-is_elsewhere c =
+    sym (c.loop-i.invariant ∙ held_here _ c.requires.0 _ _ c.requires.1 c.loop-i-test.true (sym c.is_elsewhere.ensures ∙ c.if-is_elsewhere.true))
+
+pub loop-i-preserved : goal.loop-i-preserved
+loop-i-preserved c =
+    c.loop-i.invariant ∙ held_on _ c.requires.0 _ _ c.requires.1 c.loop-i-test.true (sym c.is_elsewhere.ensures ∙ c.if-is_elsewhere.false)
+
+pub returns : goal.returns
+returns c = sym (c.loop-i.invariant ∙ held_past _ c.requires.0 _ _ c.requires.1 c.loop-i-test.false)

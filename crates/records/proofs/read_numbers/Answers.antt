@@ -1,0 +1,38 @@
+use mathlib.Core.Path.{refl}
+use Prim.Native.Nat.{◌-◌}
+use native.Mathlib.Omega.{arith}
+use lib.ListN.{length}
+use Rattle.records.proofs.LawsNumbers.{NumbersReading, reading_none, reading_bad, reading_ninth, reading_more, reading_done}
+use borrow.Author.Rules.{rules}
+use Rattle.records.proofs.read_numbers.Goals as goal
+
+pub loop-i-init : goal.loop-i-init
+loop-i-init c = reading_none _ c.requires refl
+
+pub bounds-s-i : goal.bounds-s-i
+bounds-s-i c = c.loop-i.invariant.behind.inside
+
+pub number_behind-requires : goal.number_behind-requires
+number_behind-requires c = c.loop-i.invariant.behind
+
+pub returns-in_default : goal.returns-in_default
+returns-in_default c =
+    reading_bad c.loop-i.invariant c.loop-i-test.true (rw c.in_default.is at c.number_behind.ensures)
+
+pub returns-then-count-eq-MAX_SUCCS : goal.returns-then-count-eq-MAX_SUCCS
+returns-then-count-eq-MAX_SUCCS c =
+    let w = rw c.in-Value.is at c.number_behind.ensures in
+    reading_ninth c.loop-i.invariant w.0 c.if-count-eq-MAX_SUCCS.true
+
+pub loop-i-smaller : goal.loop-i-smaller
+loop-i-smaller c =
+    let w = rw c.in-Value.is at c.number_behind.ensures in
+    omega (arith, w.0.further, w.0.behind.inside)
+
+pub loop-i-preserved : goal.loop-i-preserved
+loop-i-preserved c =
+    let w = rw c.in-Value.is at c.number_behind.ensures in
+    reading_more c.loop-i.invariant w.0 c.if-count-eq-MAX_SUCCS.false
+
+pub returns : goal.returns
+returns c = reading_done c.loop-i.invariant c.loop-i-test.false

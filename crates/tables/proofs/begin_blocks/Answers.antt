@@ -1,0 +1,30 @@
+use Rattle.tables.proofs.begin_blocks.Reads as reads
+use Rattle.tables.proofs.begin_blocks.Lts as lts
+use Rattle.cells.proofs.store.Reads as store_reads
+use Rattle.cells.proofs.unreached_state.Reads as unreached_state_reads
+use Rattle.tables.proofs.first_mark.Reads as first_mark_reads
+use Rattle.loaded.proofs.row_counts.Reads as row_counts_reads
+use mathlib.Core.Path.{◌≡◌}
+use Prim.Native.Nat.{◌-◌}
+use lib.ListN.{get_or}
+use Rattle.layout.specs.Layout.{blocks_word}
+use native.Mathlib.Omega.{arith}
+use borrow.Author.Rules.{rules}
+use Rattle.tables.specs.Laws.{counts_fit}
+use Rattle.tables.proofs.LawsFilled.{Filled, filled_none, filled_more, filled_all}
+use Rattle.tables.proofs.begin_blocks.Goals as goal
+
+pub loop-b-init : goal.loop-b-init
+loop-b-init c = filled_none
+
+pub store-requires : goal.store-requires
+store-requires c =
+    (omega arith, counts_fit _ c.requires c.row_counts-counts.ensures)
+
+pub loop-b-preserved : goal.loop-b-preserved
+loop-b-preserved c =
+    filled_more c.requires c.loop-b.invariant _ (omega (arith, c.loop-b-test.true, (c.blocks-blocks.ensures))) c.row_counts-counts.ensures c.store.ensures c.unreached_state-s.ensures c.first_mark.ensures
+
+pub returns : goal.returns
+returns c =
+    (c.loop-b.invariant.kept, filled_all c.requires c.loop-b.invariant (omega (arith, c.loop-b-test.false, (c.blocks-blocks.ensures))))
