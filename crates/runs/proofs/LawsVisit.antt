@@ -99,6 +99,8 @@ few_total : (widths counts : List ℕ) → Narrow widths counts → total counts
 unfolding total
 few_total [] [] h = omega arith
 few_total (width ∷ widths) (n ∷ counts) h = omega (arith, h.0, few_total widths counts h.1)
+few_total [] (n ∷ counts) h = elim h [ ]
+few_total (width ∷ widths) [] h = elim h [ ]
 
 few_cells : {S : Sheet} {words : List ℕ} → Holds S words → cell_count S ≤ state_words
 unfolding cell_count total

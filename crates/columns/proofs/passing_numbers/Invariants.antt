@@ -1,0 +1,18 @@
+-- `columns::passing_numbers` meets its contract: the numbers behind `at` pass as far as i, which moves on each turn; a field that
+-- shows the refusal, or the line's end, ends the count.
+use Prim.Native.Nat.{◌-◌, ◌<◌}
+use native.Mathlib.Omega.{arith}
+use lib.ListN.{length}
+use Rattle.paper.specs.Text.{number_of}
+use Rattle.paper.specs.Refusals.{within}
+use Rattle.columns.specs.Columns.{Passed}
+use Rattle.columns.proofs.LawsPassing.{number_shows, number_passes}
+use Rattle.columns.proofs.LawsNumbers.{Counting, counting_none, counting_bad, counting_done, counting_falls, counting_more}
+use borrow.Author.Rules.{rules}
+use Rattle.columns.proofs.passing_numbers.Given as goal
+
+abbrev pub invariant-loop-i : goal.invariant-loop-i
+invariant-loop-i l = Counting l.s l.at l.number l.limit l.least l.count l.i
+
+abbrev pub decreases-loop-i : goal.decreases-loop-i
+decreases-loop-i l = length l.s - l.i

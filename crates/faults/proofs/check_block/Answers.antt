@@ -1,0 +1,71 @@
+use mathlib.Core.Path.{◌≡◌, refl, ap, ◌∙◌}
+use Prim.Native.Nat.{ℕ, ◌+◌, ◌*◌, ◌-◌, ◌≤◌}
+use native.Mathlib.Omega.{arith}
+use lib.ListN.{length, get_or}
+use Rattle.paper.specs.Limits.{longest_fault_line}
+use Rattle.loaded.specs.Laws.{in_range_most}
+use Rattle.loaded.specs.Allocated.{in_range_at, honest_at}
+use Rattle.loaded.specs.Actions.{action_at, InRange}
+use Rattle.loaded.specs.Loaded.{first_step, step_total, counts_in}
+use Rattle.faults.proofs.LawsErrors.{error_within}
+use Rattle.faults.proofs.LawsBlock.{SoFar, BlockWithin, block_within, so_far_none, so_far_all, so_far_more}
+use borrow.Author.Rules.{rules}
+use Rattle.layout.specs.Layout.{row_widths}
+use Rattle.faults.proofs.check_block.Goals as goal
+
+-- the prover's list of needs
+pub first_step-first-requires : goal.first_step-first-requires
+first_step-first-requires c = let w = (block_within c.requires.0.loaded c.requires.1) in
+    (omega arith, omega arith)
+
+pub step_total-count-requires : goal.step_total-count-requires
+step_total-count-requires c = let w = (block_within c.requires.0.loaded c.requires.1) in
+    (omega arith, omega arith)
+
+pub load-t-requires : goal.load-t-requires
+load-t-requires c = let w = (block_within c.requires.0.loaded c.requires.1) in
+    omega arith
+
+pub loop-place-init : goal.loop-place-init
+loop-place-init c = (omega arith, omega arith, refl, so_far_none c.requires.0 c.requires.1 _ _ _ _ (c.load-t.ensures _ ((block_within c.requires.0.loaded c.requires.1)).rows))
+
+pub overflow_add-first : goal.overflow_add-first
+overflow_add-first c = omega (arith, (block_within c.requires.0.loaded c.requires.1))
+
+pub action_at-action-requires : goal.action_at-action-requires
+action_at-action-requires c = let w = (block_within c.requires.0.loaded c.requires.1) in
+    (omega arith, omega arith)
+
+pub check-error-requires : goal.check-error-requires
+check-error-requires c = (let words = c.args.words.now in
+    let w = (block_within c.requires.0.loaded c.requires.1) in
+    in_range_most (counts_in words) words c.action_at-action.result w.rows ((rw ((c.action_at-action.ensures ∙ ap (λ (n : ℕ). action_at c.args.words.now (n + c.loop-place.place)) c.first_step-first.ensures)) (in_range_at c.requires.0.loaded _ c.requires.1 c.requires.0.allocated _ (omega arith)))))
+
+pub count_or_write-next-requires : goal.count_or_write-next-requires
+count_or_write-next-requires c = let w = (block_within c.requires.0.loaded c.requires.1) in
+    let e = error_within _ c.action_at-action.result _ _ ((let words = c.args.words.now in
+    let w = (block_within c.requires.0.loaded c.requires.1) in
+    in_range_most (counts_in words) words c.action_at-action.result w.rows ((rw ((c.action_at-action.ensures ∙ ap (λ (n : ℕ). action_at c.args.words.now (n + c.loop-place.place)) c.first_step-first.ensures)) (in_range_at c.requires.0.loaded _ c.requires.1 c.requires.0.allocated _ (omega arith)))))) (c.check-error.ensures _ ((rw ((c.action_at-action.ensures ∙ ap (λ (n : ℕ). action_at c.args.words.now (n + c.loop-place.place)) c.first_step-first.ensures)) (in_range_at c.requires.0.loaded _ c.requires.1 c.requires.0.allocated _ (omega arith))))) in
+    ((omega arith, omega arith), e, omega arith)
+
+pub update-requires : goal.update-requires
+update-requires c = (let words = c.args.words.now in
+    let w = (block_within c.requires.0.loaded c.requires.1) in
+    in_range_most (counts_in words) words c.action_at-action.result w.rows ((rw ((c.action_at-action.ensures ∙ ap (λ (n : ℕ). action_at c.args.words.now (n + c.loop-place.place)) c.first_step-first.ensures)) (in_range_at c.requires.0.loaded _ c.requires.1 c.requires.0.allocated _ (omega arith)))))
+
+pub overflow_add-place : goal.overflow_add-place
+overflow_add-place c = omega (arith, (block_within c.requires.0.loaded c.requires.1))
+
+pub loop-place-preserved : goal.loop-place-preserved
+loop-place-preserved c = (
+      omega arith,
+      omega arith,
+      omega arith,
+      so_far_more _ _ _ ((c.action_at-action.ensures ∙ ap (λ (c : ℕ). action_at c.args.words.now (c + c.loop-place.place)) c.first_step-first.ensures)) (c.check-error.ensures _ ((rw ((c.action_at-action.ensures ∙ ap (λ (c : ℕ). action_at c.args.words.now (c + c.loop-place.place)) c.first_step-first.ensures)) (in_range_at c.requires.0.loaded _ c.requires.1 c.requires.0.allocated _ (omega arith))))) (c.inst_of-inst.ensures _)
+          (c.update.ensures _ ((block_within c.requires.0.loaded c.requires.1)).rows ((rw ((c.action_at-action.ensures ∙ ap (λ (c : ℕ). action_at c.args.words.now (c + c.loop-place.place)) c.first_step-first.ensures)) (in_range_at c.requires.0.loaded _ c.requires.1 c.requires.0.allocated _ (omega arith)))) _ (rw ((c.action_at-action.ensures ∙ ap (λ (c : ℕ). action_at c.args.words.now (c + c.loop-place.place)) c.first_step-first.ensures)) (honest_at c.requires.0.loaded _ c.requires.1 _ (omega arith))))
+          c.loop-place.invariant.3 c.count_or_write-next.ensures.0,
+    )
+
+pub returns : goal.returns
+returns c = let e : c.loop-place.place ≡ step_total c.args.words.now c.args.block = omega arith in
+    (so_far_all c.requires.0 c.requires.1 (rw e at c.loop-place.invariant.3), omega arith)

@@ -1,0 +1,53 @@
+use mathlib.Core.Path.{◌≡◌, refl}
+use mathlib.Core.Logic.{⊎_elim}
+use Prim.Native.Nat.{◌+◌, ◌*◌, ◌-◌, ◌≤◌}
+use native.Mathlib.Omega.{arith}
+use lib.ListN.{length, get_or}
+use Rattle.lists.specs.Sets.{Wrote}
+use Rattle.paper.specs.Limits.{longest_unreached_line}
+use Rattle.paper.specs.Report.{lines_text}
+use Rattle.layout.specs.Layout.{blocks_word}
+use Rattle.report.specs.Lengths.{unreached_short}
+use Rattle.faults.specs.Reported.{unmarked_lines}
+use Rattle.faults.proofs.LawsBlock.{unmarked_to, unmarked_none, unmarked_skipped, unmarked_more}
+use borrow.Author.Rules.{rules}
+use Rattle.faults.proofs.write_unmarked.Goals as goal
+
+-- the prover's list of needs
+pub blocks-total-requires : goal.blocks-total-requires
+blocks-total-requires c = c.requires.0.bounds.size
+
+pub loop-block-init : goal.loop-block-init
+loop-block-init c = (omega arith, omega arith, refl, unmarked_none c.args.words.now _ _)
+
+pub overflow_add-block : goal.overflow_add-block
+overflow_add-block c = omega (arith, c.requires.0.bounds)
+
+pub bounds-words-block : goal.bounds-words-block
+bounds-words-block c = omega (arith, c.requires.0.bounds.blocks, c.requires.1)
+
+pub write_unreached-next-requires : goal.write_unreached-next-requires
+write_unreached-next-requires c = let few = c.requires.0.bounds.blocks in
+    (omega (arith, few), omega (arith, few, unreached_short c.loop-block.block (omega (arith, few))))
+
+pub overflow_add-block-in-loop-block : goal.overflow_add-block-in-loop-block
+overflow_add-block-in-loop-block c = omega (arith, c.requires.0.bounds)
+
+pub loop-block-preserved : goal.loop-block-preserved
+loop-block-preserved c = let b = c.loop-block.block in
+    let words = c.args.words.now in
+    let few = c.requires.0.bounds.blocks in
+    ⊎_elim
+    (λ w. rw (w.5, w.6) (
+      omega arith,
+      omega (arith, w.2.ensures, unreached_short b (omega (arith, few))),
+      omega (arith, w.3.given),
+      unmarked_more words b c.loop-block.invariant.3 w.0.taken w.2.ensures,
+    ))
+    (λ w. rw (w.1, w.2) (omega arith, omega arith, c.loop-block.invariant.2, unmarked_skipped words b c.loop-block.invariant.3 w.0.left))
+    c.if-words-block-eq0.branch
+
+pub returns : goal.returns
+unfolding unmarked_lines
+returns c = let e : c.loop-block.block ≡ get_or c.args.words.now blocks_word 0 = omega arith in
+    (rw e at c.loop-block.invariant.3, omega (arith, c.requires.0.bounds.blocks))

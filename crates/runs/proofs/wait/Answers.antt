@@ -1,0 +1,14 @@
+-- `wait` meets its contract: where what came is new, the block is appended and its byte cleared; else all stays as it is.
+use mathlib.Core.Path.{refl}
+use Rattle.runs.specs.Settled.{unsettled}
+use borrow.Author.Rules.{rules}
+use Rattle.runs.proofs.wait.Goals as goal
+
+pub returns-then-new : goal.returns-then-new
+unfolding unsettled
+returns-then-new c =
+    rw c.if-new.true (c.append.ensures, refl)
+
+pub returns-else-new : goal.returns-else-new
+unfolding unsettled
+returns-else-new c = rw c.if-new.false ((refl, refl), refl)
