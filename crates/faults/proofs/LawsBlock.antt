@@ -18,7 +18,7 @@ use Rattle.layout.specs.Layout.{blocks_word, opened_word, steps_word, state_base
 use Rattle.walks.specs.Entries.{faults_append, reached_entries, reached_faults, unreached_entries}
 use Rattle.cells.specs.States.{state_of, stored_state, RowsFit}
 use Rattle.loaded.specs.Actions.{step_of, action_at, steps_at, RoomFor}
-use Rattle.loaded.specs.Laws.{room_within}
+use Rattle.loaded.specs.Laws.{MayStand, room_within}
 use Rattle.loaded.specs.Same.{length_steps, steps_more}
 use Rattle.loaded.specs.declared.Action.{Action}
 use Rattle.loaded.specs.Loaded.{first_step, step_total, sheet_of, Loaded, counts_in}
@@ -74,7 +74,7 @@ block_within {words} {block} l h =
 
 -- the operands of a step lie in the words
 pub room_at : {words : List ℕ} → Loaded words → (k : ℕ) → k < get_or words steps_word 0 → RoomFor (action_at words k) words
-room_at {words} l k h = room_within _ _ words (action_at words k) (l.bounds.each_step k h).ranged
+room_at {words} l k h = room_within (counts_in words) (MayStand (counts_in words)) words (action_at words k) (l.bounds.each_step k h).ranged
 
 module _ {rule : Rule} {words : List ℕ} {block : ℕ} (C : Checkable rule words) (h : block < get_or words blocks_word 0) where
   -- nothing is checked yet

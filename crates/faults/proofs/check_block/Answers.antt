@@ -1,3 +1,9 @@
+use mathlib.Core.List.{List}
+use Rattle.paper.specs.declared.Rule.{Rule}
+use Rattle.loaded.specs.declared.Action.{Action}
+use Rattle.faults.specs.Reported.{Checkable}
+use Prim.Native.Nat.{◌<◌}
+use Rattle.layout.specs.Layout.{blocks_word}
 use mathlib.Core.Path.{◌≡◌, refl, ap, ◌∙◌}
 use Prim.Native.Nat.{ℕ, ◌+◌, ◌*◌, ◌-◌, ◌≤◌}
 use native.Mathlib.Omega.{arith}
@@ -13,7 +19,21 @@ use borrow.Author.Rules.{rules}
 use Rattle.layout.specs.Layout.{row_widths}
 use Rattle.faults.proofs.check_block.Goals as goal
 
--- the prover's list of needs
+-- the step is the one at its place of the block
+here : (words : List ℕ) (block place : ℕ) {first : ℕ} {a : Action} → first ≡ first_step words block → a ≡ action_at words (first + place)
+    → a ≡ action_at words (first_step words block + place)
+here words block place f e = e ∙ ap (λ (n : ℕ). action_at words (n + place)) f
+
+-- its operands lie below the counts, since no allocation is missing, and so in their rows
+runs : {rule : Rule} {words : List ℕ} {block place first count : ℕ} {a : Action} → Checkable rule words → block < get_or words blocks_word 0
+    → first ≡ first_step words block → a ≡ action_at words (first + place) → count ≡ step_total words block → place < count
+    → InRange (counts_in words) words a
+runs {rule} {words} {block} {place} C h f e t p = rw (here words block place f e) (in_range_at C.loaded block h C.allocated place (omega arith))
+
+most : {rule : Rule} {words : List ℕ} {block : ℕ} (a : Action) → Checkable rule words → block < get_or words blocks_word 0
+    → InRange (counts_in words) words a → InRange row_widths words a
+most {rule} {words} {block} a C h r = in_range_most (counts_in words) words a (block_within C.loaded h).rows r
+
 pub first_step-first-requires : goal.first_step-first-requires
 first_step-first-requires c = let w = (block_within c.requires.0.loaded c.requires.1) in
     (omega arith, omega arith)
@@ -37,21 +57,17 @@ action_at-action-requires c = let w = (block_within c.requires.0.loaded c.requir
     (omega arith, omega arith)
 
 pub check-error-requires : goal.check-error-requires
-check-error-requires c = (let words = c.args.words.now in
-    let w = (block_within c.requires.0.loaded c.requires.1) in
-    in_range_most (counts_in words) words c.action_at-action.result w.rows ((rw ((c.action_at-action.ensures ∙ ap (λ (n : ℕ). action_at c.args.words.now (n + c.loop-place.place)) c.first_step-first.ensures)) (in_range_at c.requires.0.loaded _ c.requires.1 c.requires.0.allocated _ (omega arith)))))
+check-error-requires c = (most _ c.requires.0 c.requires.1 (runs c.requires.0 c.requires.1 c.first_step-first.ensures c.action_at-action.ensures c.step_total-count.ensures c.loop-place-test.true))
 
 pub count_or_write-next-requires : goal.count_or_write-next-requires
 count_or_write-next-requires c = let w = (block_within c.requires.0.loaded c.requires.1) in
-    let e = error_within _ c.action_at-action.result _ _ ((let words = c.args.words.now in
-    let w = (block_within c.requires.0.loaded c.requires.1) in
-    in_range_most (counts_in words) words c.action_at-action.result w.rows ((rw ((c.action_at-action.ensures ∙ ap (λ (n : ℕ). action_at c.args.words.now (n + c.loop-place.place)) c.first_step-first.ensures)) (in_range_at c.requires.0.loaded _ c.requires.1 c.requires.0.allocated _ (omega arith)))))) (c.check-error.ensures _ ((rw ((c.action_at-action.ensures ∙ ap (λ (n : ℕ). action_at c.args.words.now (n + c.loop-place.place)) c.first_step-first.ensures)) (in_range_at c.requires.0.loaded _ c.requires.1 c.requires.0.allocated _ (omega arith))))) in
+    let r = runs c.requires.0 c.requires.1 c.first_step-first.ensures c.action_at-action.ensures c.step_total-count.ensures c.loop-place-test.true in
+    let f = c.check-error.ensures (counts_in c.args.words.now) r in
+    let e = error_within _ c.action_at-action.result _ _ (most _ c.requires.0 c.requires.1 r) f in
     ((omega arith, omega arith), e, omega arith)
 
 pub update-requires : goal.update-requires
-update-requires c = (let words = c.args.words.now in
-    let w = (block_within c.requires.0.loaded c.requires.1) in
-    in_range_most (counts_in words) words c.action_at-action.result w.rows ((rw ((c.action_at-action.ensures ∙ ap (λ (n : ℕ). action_at c.args.words.now (n + c.loop-place.place)) c.first_step-first.ensures)) (in_range_at c.requires.0.loaded _ c.requires.1 c.requires.0.allocated _ (omega arith)))))
+update-requires c = (most _ c.requires.0 c.requires.1 (runs c.requires.0 c.requires.1 c.first_step-first.ensures c.action_at-action.ensures c.step_total-count.ensures c.loop-place-test.true))
 
 pub overflow_add-place : goal.overflow_add-place
 overflow_add-place c = omega (arith, (block_within c.requires.0.loaded c.requires.1))
@@ -61,8 +77,8 @@ loop-place-preserved c = (
       omega arith,
       omega arith,
       omega arith,
-      so_far_more _ _ _ ((c.action_at-action.ensures ∙ ap (λ (c : ℕ). action_at c.args.words.now (c + c.loop-place.place)) c.first_step-first.ensures)) (c.check-error.ensures _ ((rw ((c.action_at-action.ensures ∙ ap (λ (c : ℕ). action_at c.args.words.now (c + c.loop-place.place)) c.first_step-first.ensures)) (in_range_at c.requires.0.loaded _ c.requires.1 c.requires.0.allocated _ (omega arith))))) (c.inst_of-inst.ensures _)
-          (c.update.ensures _ ((block_within c.requires.0.loaded c.requires.1)).rows ((rw ((c.action_at-action.ensures ∙ ap (λ (c : ℕ). action_at c.args.words.now (c + c.loop-place.place)) c.first_step-first.ensures)) (in_range_at c.requires.0.loaded _ c.requires.1 c.requires.0.allocated _ (omega arith)))) _ (rw ((c.action_at-action.ensures ∙ ap (λ (c : ℕ). action_at c.args.words.now (c + c.loop-place.place)) c.first_step-first.ensures)) (honest_at c.requires.0.loaded _ c.requires.1 _ (omega arith))))
+      so_far_more _ _ _ (here c.args.words.now c.args.block c.loop-place.place c.first_step-first.ensures c.action_at-action.ensures) (c.check-error.ensures _ (runs c.requires.0 c.requires.1 c.first_step-first.ensures c.action_at-action.ensures c.step_total-count.ensures c.loop-place-test.true)) (c.inst_of-inst.ensures _)
+          (c.update.ensures _ ((block_within c.requires.0.loaded c.requires.1)).rows (runs c.requires.0 c.requires.1 c.first_step-first.ensures c.action_at-action.ensures c.step_total-count.ensures c.loop-place-test.true) _ (rw (here c.args.words.now c.args.block c.loop-place.place c.first_step-first.ensures c.action_at-action.ensures) (honest_at c.requires.0.loaded _ c.requires.1 _ (omega arith))))
           c.loop-place.invariant.3 c.count_or_write-next.ensures.0,
     )
 

@@ -18,7 +18,7 @@ pub returns-then-fault-eq0 : goal.returns-then-fault-eq0
 returns-then-fault-eq0 c = (pass_nothing _ _ _ _ c.fields_of-fault.ensures c.if-fault-eq0.true, omega arith)
 
 pub write_line-requires : goal.write_line-requires
-write_line-requires c = (c.requires.0, omega (arith, (line_short _ _ c.requires.0 c.fields_of-fault.ensures.short)))
+write_line-requires c = (c.requires.0, omega (arith, (line_short c.args.position c.fields_of-fault.result c.requires.0 c.fields_of-fault.ensures.short)))
 
 pub returns-in-Count : goal.returns-in-Count
 returns-in-Count c = rw c.in-Count.is (pass_counted _ _ _ c.fields_of-fault.ensures c.if-fault-eq0.false, omega arith)
@@ -26,5 +26,5 @@ returns-in-Count c = rw c.in-Count.is (pass_counted _ _ _ c.fields_of-fault.ensu
 pub returns-in-Write : goal.returns-in-Write
 returns-in-Write c = (
       rw c.in-Write.is (pass_written _ c.fields_of-fault.ensures c.if-fault-eq0.false c.write_line.ensures),
-      omega (arith, (line_short _ _ c.requires.0 c.fields_of-fault.ensures.short)),
+      omega (arith, (line_short c.args.position c.fields_of-fault.result c.requires.0 c.fields_of-fault.ensures.short)),
     )

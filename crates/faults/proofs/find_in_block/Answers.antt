@@ -44,7 +44,7 @@ returns-then-missing c = let w = (block_within c.requires.0 c.requires.1) in
     let found = rw ((c.action_at-action.ensures ∙ ap (λ (n : ℕ). action_at c.args.words.now (n + c.loop-place.place)) c.first_step-first.ensures)) at some in
     record {
       lines = rw (steps_in_words _ _ w.opened) (c.loop-place.invariant.1 ∙ missing_here _ _ _ _ _ (omega arith) found ∙ ap at (sym c.first_step-first.ensures));
-      (λ c. block_within c.requires.0 c.requires.1)= (omega arith, omega arith, omega arith, rw c.action_at-action.ensures at some);
+      within = (omega arith, omega arith, omega arith, rw c.action_at-action.ensures at some);
     }
 
 pub overflow_add-place : goal.overflow_add-place
@@ -56,4 +56,4 @@ loop-place-preserved c = let none = rw ((c.action_at-action.ensures ∙ ap (λ (
 
 pub returns : goal.returns
 unfolding missing_lines
-returns c = record { lines = rw (steps_in_words _ _ ((block_within c.requires.0 c.requires.1)).opened) (c.loop-place.invariant.1 ∙ missing_ended _ _ _ _ _ (omega arith)); (λ c. block_within c.requires.0 c.requires.1)= tt }
+returns c = record { lines = rw (steps_in_words _ _ ((block_within c.requires.0 c.requires.1)).opened) (c.loop-place.invariant.1 ∙ missing_ended _ _ _ _ _ (omega arith)); within = tt }

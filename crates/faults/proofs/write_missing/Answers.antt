@@ -45,26 +45,26 @@ missing_among-requires c = omega (arith, (subst (λ (a : Action). RoomFor a c.ar
     (room_at c.requires.0 c.args.k c.requires.1.within.2)))
 
 pub write_missing_among-requires : goal.write_missing_among-requires
-write_missing_among-requires c = let r = (subst (λ (c : Action). RoomFor c c.args.words.now) (sym c.action_at.ensures ∙ c.in-Operation.is)
+write_missing_among-requires c = let r = (subst (λ (a : Action). RoomFor a c.args.words.now) (sym c.action_at.ensures ∙ c.in-Operation.is)
     (room_at c.requires.0 c.args.k c.requires.1.within.2)) in
     (omega arith, omega arith, ((omega (arith, c.requires.0.bounds.blocks, c.requires.1.within), c.requires.1.within.1)), c.requires.2, sym c.missing_among.ensures ∙ c.if-missing_among.true)
 
 pub returns-then-missing_among : goal.returns-then-missing_among
-returns-then-missing_among c = rw ((rw (sym c.in-Operation.is ∙ c.action_at.ensures) (entries_missing _ _ _ _ c.args.k c.requires.1)), lines_of_uses _ _ _ _ _ _ _ (sym c.missing_among.ensures ∙ c.if-missing_among.true)) c.write_missing_among.ensures
+returns-then-missing_among c = rw ((rw (sym c.action_at.ensures ∙ c.in-Operation.is) at (entries_missing c.args.rule c.args.words.now c.args.block c.args.place c.args.k c.requires.1)), lines_of_uses _ _ _ _ _ _ _ (sym c.missing_among.ensures ∙ c.if-missing_among.true)) c.write_missing_among.ensures
 
 pub overflow_add-at : goal.overflow_add-at
 overflow_add-at c = omega (arith, (subst (λ (a : Action). RoomFor a c.args.words.now) (sym c.action_at.ensures ∙ c.in-Operation.is)
     (room_at c.requires.0 c.args.k c.requires.1.within.2)))
 
 pub write_missing_among-requires-2 : goal.write_missing_among-requires-2
-write_missing_among-requires-2 c = let r = (subst (λ (c : Action). RoomFor c c.args.words.now) (sym c.action_at.ensures ∙ c.in-Operation.is)
+write_missing_among-requires-2 c = let r = (subst (λ (a : Action). RoomFor a c.args.words.now) (sym c.action_at.ensures ∙ c.in-Operation.is)
     (room_at c.requires.0 c.args.k c.requires.1.within.2)) in (
       omega arith,
       omega arith,
       ((omega (arith, c.requires.0.bounds.blocks, c.requires.1.within), c.requires.1.within.1)),
       c.requires.2,
-      some_defs _ _ _ _ _ (sym c.missing_among.ensures ∙ c.if-missing_among.false) ((rw (sym c.in-Operation.is ∙ c.action_at.ensures) (c).requires.1.within.3)),
+      some_defs _ _ _ _ _ (sym c.missing_among.ensures ∙ c.if-missing_among.false) (rw (sym c.action_at.ensures ∙ c.in-Operation.is) at c.requires.1.within.3),
     )
 
 pub returns : goal.returns
-returns c = rw ((rw (sym c.in-Operation.is ∙ c.action_at.ensures) (entries_missing _ _ _ _ c.args.k c.requires.1)), lines_of_defs _ _ _ _ _ _ _ (sym c.missing_among.ensures ∙ c.if-missing_among.false)) c.write_missing_among-2.ensures
+returns c = rw ((rw (sym c.action_at.ensures ∙ c.in-Operation.is) at (entries_missing c.args.rule c.args.words.now c.args.block c.args.place c.args.k c.requires.1)), lines_of_defs _ _ _ _ _ _ _ (sym c.missing_among.ensures ∙ c.if-missing_among.false)) c.write_missing_among-2.ensures

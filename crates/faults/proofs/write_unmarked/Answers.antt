@@ -12,6 +12,7 @@ use Rattle.faults.specs.Reported.{unmarked_lines}
 use Rattle.faults.proofs.LawsBlock.{unmarked_to, unmarked_none, unmarked_skipped, unmarked_more}
 use borrow.Author.Rules.{rules}
 use Rattle.faults.proofs.write_unmarked.Goals as goal
+use Rattle.faults.proofs.write_unmarked.Goals.{then-words-block-eq0, else-words-block-eq0}
 
 -- the prover's list of needs
 pub blocks-total-requires : goal.blocks-total-requires
@@ -37,15 +38,15 @@ pub loop-block-preserved : goal.loop-block-preserved
 loop-block-preserved c = let b = c.loop-block.block in
     let words = c.args.words.now in
     let few = c.requires.0.bounds.blocks in
-    ⊎_elim
-    (λ w. rw (w.5, w.6) (
-      omega arith,
-      omega (arith, w.2.ensures, unreached_short b (omega (arith, few))),
-      omega (arith, w.3.given),
-      unmarked_more words b c.loop-block.invariant.3 w.0.taken w.2.ensures,
-    ))
-    (λ w. rw (w.1, w.2) (omega arith, omega arith, c.loop-block.invariant.2, unmarked_skipped words b c.loop-block.invariant.3 w.0.left))
-    c.if-words-block-eq0.branch
+    elim c.if-words-block-eq0.branch [
+      then-words-block-eq0 w ↦ rw (w.report-is, w.next-is) (
+        omega arith,
+        omega (arith, w.write_unreached-next.ensures, unreached_short b (omega (arith, few))),
+        omega arith,
+        unmarked_more words b c.loop-block.invariant.3 w.if-words-block-eq0.true w.write_unreached-next.ensures,
+      )
+    | else-words-block-eq0 w ↦ rw (w.report-is, w.next-is) (omega arith, omega arith, c.loop-block.invariant.2, unmarked_skipped words b c.loop-block.invariant.3 w.if-words-block-eq0.false)
+    ]
 
 pub returns : goal.returns
 unfolding unmarked_lines

@@ -1,0 +1,91 @@
+use mathlib.Core.Path.{◌≡◌, refl, sym, ◌∙◌}
+use Prim.Native.Nat.{◌-◌, ◌≤◌}
+use native.Mathlib.Omega.{arith}
+use mathlib.Core.List.{◌++◌}
+use lib.ListN.{length, drop}
+use lib.Seq.{length-take-le}
+use Rattle.layout.specs.Layout.{block_base, all_words}
+use Rattle.sheet.specs.Reading.{SheetText}
+use Rattle.sheet.proofs.LawsText.{text_of}
+use Rattle.sheet.proofs.LawsProgress.{size_of}
+use Rattle.sheet.proofs.LawsLoad.{Ahead, ahead_at_first, line_good, line_further, bad_progress, line_bad, too_few, all_read, no_sheet, cleared_length, cleared_blank, load_from}
+use borrow.Author.Rules.{rules}
+use mathlib.Core.Bool.{false}
+use Rattle.paper.specs.Refusals.{no_text}
+use Rattle.sheet.proofs.load.Goals as goal
+
+pub no_text-requires : goal.no_text-requires
+no_text-requires c = tt
+
+pub returns-then-no_text : goal.returns-then-no_text
+returns-then-no_text c = no_sheet _ _ (sym c.no_text.ensures ∙ c.if-no_text.true)
+
+pub slice_bounds-clear_words-end-2 : goal.slice_bounds-clear_words-end-2
+slice_bounds-clear_words-end-2 c = sym (length-take-le block_base c.args.words.now (omega arith))
+
+pub clear_words-requires : goal.clear_words-requires
+clear_words-requires c = tt
+
+pub loop-at-init : goal.loop-at-init
+loop-at-init c =
+    ahead_at_first _ _ _ ((sym c.no_text.ensures ∙ c.if-no_text.false)) (cleared_blank c.args.words.now _ c.clear_words.ensures
+    (omega (arith, c.requires))) refl
+
+pub read_line-lined-requires : goal.read_line-lined-requires
+read_line-lined-requires c =
+    ((text_of _ ((sym c.no_text.ensures ∙ c.if-no_text.false))), c.loop-at-test.true, c.loop-at.invariant.progress)
+
+-- a bad line
+pub refusal_of-requires : goal.refusal_of-requires
+refusal_of-requires c =
+    let h = c.loop-at-test.true in
+    ((text_of _ ((sym c.no_text.ensures ∙ c.if-no_text.false))), h, size_of _ (bad_progress c.loop-at.invariant h c.in-Bad.breach (rw c.in-Bad.is at c.read_line-lined.ensures)))
+
+pub shape_of-words-in-Bad : goal.shape_of-words-in-Bad
+shape_of-words-in-Bad c =
+    c.read_line-lined.ensures.same_length ∙ (c.loop-at.invariant.same_length ∙ (cleared_length c.args.words.now _ c.clear_words.ensures
+    (omega (arith, c.requires))))
+
+pub returns-in-Bad : goal.returns-in-Bad
+returns-in-Bad c =
+    load_from _ ((cleared_length c.args.words.now _ c.clear_words.ensures
+    (omega (arith, c.requires))))
+    (line_bad c.loop-at.invariant c.loop-at-test.true c.in-Bad.breach (rw c.in-Bad.is at c.read_line-lined.ensures) c.refusal_of.ensures)
+
+pub overflow_add-line : goal.overflow_add-line
+overflow_add-line c =
+    let t = (text_of _ ((sym c.no_text.ensures ∙ c.if-no_text.false))) in
+    omega (arith, c.loop-at.invariant.few, c.loop-at-test.true)
+
+pub loop-at-smaller : goal.loop-at-smaller
+loop-at-smaller c =
+    let h = c.loop-at-test.true in
+    omega (arith, line_further c.loop-at.invariant h c.in-Good.next (rw c.in-Good.is at c.read_line-lined.ensures), h)
+
+pub loop-at-preserved : goal.loop-at-preserved
+loop-at-preserved c =
+    line_good c.loop-at.invariant c.loop-at-test.true c.in-Good.next (rw c.in-Good.is at c.read_line-lined.ensures)
+
+pub progress-reached-requires : goal.progress-reached-requires
+progress-reached-requires c = (size_of _ c.loop-at.invariant.progress)
+
+pub blocks-requires : goal.blocks-requires
+blocks-requires c = (size_of _ c.loop-at.invariant.progress)
+
+pub shape_of-words-then-reached-blocks : goal.shape_of-words-then-reached-blocks
+shape_of-words-then-reached-blocks c = (c.loop-at.invariant.same_length ∙ (cleared_length c.args.words.now _ c.clear_words.ensures
+    (omega (arith, c.requires))))
+
+pub returns-then-reached-blocks : goal.returns-then-reached-blocks
+returns-then-reached-blocks c =
+    load_from _ ((cleared_length c.args.words.now _ c.clear_words.ensures
+    (omega (arith, c.requires)))) (too_few c.loop-at.invariant c.loop-at-test.false c.progress-reached.ensures c.blocks-2.ensures c.if-reached-blocks.true)
+
+pub shape_of-words : goal.shape_of-words
+shape_of-words c = (c.loop-at.invariant.same_length ∙ (cleared_length c.args.words.now _ c.clear_words.ensures
+    (omega (arith, c.requires))))
+
+pub returns : goal.returns
+returns c =
+    load_from _ ((cleared_length c.args.words.now _ c.clear_words.ensures
+    (omega (arith, c.requires)))) (all_read c.loop-at.invariant c.loop-at-test.false c.progress-reached.ensures c.blocks-2.ensures c.if-reached-blocks.false)

@@ -1,0 +1,53 @@
+-- `sheet::read_safepoint` meets its contract: place and counts in the words are those of the sheet so far, so what `safepoint_line`
+-- tells holds of it; a good line's action fits.
+use mathlib.Core.Path.{◌≡◌, refl, ap}
+use Prim.Native.Nat.{◌^◌, ◌<◌}
+use native.Mathlib.Omega.{arith}
+use lib.ListN.{get_or}
+use Rattle.paper.specs.Refusals.{safepoint_of}
+use Rattle.layout.specs.Layout.{slots_word}
+use Rattle.fields.specs.Fields.{line_end, fields_behind}
+use Rattle.records.specs.Records.{safepoint_line, told, InPlace, SafepointWithin}
+use Rattle.loaded.specs.Actions.{step_of}
+use Rattle.loaded.specs.Loaded.{so_far}
+use Rattle.sheet.proofs.LawsProgress.{Ready, step_ready, size_of, step_placed, within_by, so_far_counted}
+use Rattle.sheet.proofs.LawsJudged.{line_refused, line_accepted, safepoint_clear}
+use Rattle.sheet.proofs.LawsActions.{safepoint_fits}
+use borrow.Author.Rules.{rules}
+use Rattle.sheet.proofs.read_safepoint.Goals as goal
+
+pub step_place-place-requires : goal.step_place-place-requires
+step_place-place-requires c = size_of _ c.requires.1
+
+pub counts_of-counts-requires : goal.counts_of-counts-requires
+counts_of-counts-requires c = size_of _ c.requires.1
+
+pub safepoint_line-line-requires : goal.safepoint_line-line-requires
+safepoint_line-line-requires c = (c.requires.0, within_by _ _ c.counts_of-counts.ensures c.requires.1)
+
+pub add_step-requires : goal.add_step-requires
+add_step-requires c =
+    let r = (step_ready c.requires.1 c.step_place-place.ensures ((safepoint_clear c.safepoint_line-line.ensures.clear c.in-Good.is)).0) in
+    (r.some_sheet, r.some_block, r.some_room, safepoint_fits _ c.requires.1 _ _ ((rw c.counts_of-counts.ensures at ((safepoint_clear c.safepoint_line-line.ensures.clear c.in-Good.is)).1.mask_below)))
+
+pub overflow_add-result : goal.overflow_add-result
+overflow_add-result c =
+    omega (arith, ((safepoint_clear c.safepoint_line-line.ensures.clear c.in-Good.is)).0.inside, c.requires.0.size)
+
+pub shape_of-words-in-Bad : goal.shape_of-words-in-Bad
+shape_of-words-in-Bad c = refl
+
+pub returns-in-Bad : goal.returns-in-Bad
+unfolding safepoint_line
+returns-in-Bad c =
+    line_refused ((let p = c.requires.1 in
+    c.safepoint_line-line.ensures.result_value (so_far _) (step_placed _ p _ c.step_place-place.ensures) (so_far_counted _ p _ c.counts_of-counts.ensures))) refl (ap safepoint_line c.in-Bad.is)
+
+pub shape_of-words-in-Good : goal.shape_of-words-in-Good
+shape_of-words-in-Good c = c.add_step.ensures.same_length
+
+pub returns-in-Good : goal.returns-in-Good
+unfolding safepoint_line step_of
+returns-in-Good c =
+    line_accepted ((let p = c.requires.1 in
+    c.safepoint_line-line.ensures.result_value (so_far _) (step_placed _ p _ c.step_place-place.ensures) (so_far_counted _ p _ c.counts_of-counts.ensures))) c.requires.1 (ap safepoint_line c.in-Good.is) ((safepoint_clear c.safepoint_line-line.ensures.clear c.in-Good.is)).0.inside c.add_step.ensures
