@@ -1,11 +1,8 @@
 -- What `pair_at` is, by the answers that a walk from field to field meets.
-use mathlib.Core.Path.{◌≡◌, sym, ◌∙◌}
-use mathlib.Core.List.{[], ◌∷◌}
+use mathlib.Core.Path.{◌≡◌, refl, sym, ◌∙◌}
 use Prim.Native.Nat.{ℕ, ◌+◌}
 use native.Mathlib.Omega.{arith}
 use lib.ListN.{get_or}
-use denote.Enum.Declared.{tag_of}
-use types.Run.{OneOf, miss}
 use Rattle.paper.specs.Text.{Bytes, tab, number_of}
 use Rattle.paper.specs.Refusals.{next, ended}
 use Rattle.fields.specs.Fields.{line_end, EndWithin}
@@ -13,13 +10,12 @@ use Rattle.fields.specs.Cursor.{fields_at, fields_behind_tab, fields_behind_none
 use Rattle.fields.specs.Told.{Says, Refuses, next_says, next_refused}
 use Rattle.fields.specs.declared.End as End
 use Rattle.fields.specs.declared.End.TheVariants as end
-use Rattle.fields.specs.contracts.End.{the_type}
 use Rattle.reader.specs.Pairs.{pair_of, pair_told, pair_at}
 use Rattle.reader.specs.declared.Pair.TheVariants as pair
 
--- an end that is a line feed or neither is no tab
-no_tab : (s : Bytes) (at : ℕ) (e : End.End) → EndWithin s at e → OneOf (1 ∷ 2 ∷ []) (tag_of the_type e) → get_or s at 0 ≡ tab → ⊥
-no_tab s at end.Tab w k = absurd (miss (1 ∷ 2 ∷ []) 0 tt k)
+-- where what is told is not `Tab`, no tab stands
+no_tab : (s : Bytes) (at : ℕ) (e : End.End) → EndWithin s at e → (e ≡ end.Tab → ⊥) → get_or s at 0 ≡ tab → ⊥
+no_tab s at end.Tab w k = absurd (k refl)
 no_tab s at end.LineFeed w k = λ t. let z : ◌≡◌ {A = ℕ} 9 10 = sym t ∙ w.1 in omega arith
 no_tab s at end.Neither w k = w.0
 
@@ -29,7 +25,7 @@ module _ {s : Bytes} {at : ℕ} where
   no_first w = rw (next_refused w)
 
   module _ {a i : ℕ} (first : Says number_of s at a i) where
-    pub no_second : (e : End.End) → EndWithin s i e → OneOf (1 ∷ 2 ∷ []) (tag_of the_type e) → pair_at s at ≡ pair.Bad
+    pub no_second : (e : End.End) → EndWithin s i e → (e ≡ end.Tab → ⊥) → pair_at s at ≡ pair.Bad
     unfolding pair_at pair_of pair_told next
     no_second e w k = rw (next_says first, fields_behind_none s i (no_tab s i e w k))
 
@@ -46,7 +42,7 @@ module _ {s : Bytes} {at : ℕ} where
         line_ends : (get_or s j 0 ≡ tab → ⊥) → line_end s at ≡ j
         line_ends n = rw (← first.place) at (line_end_tab s at (rw (← first.place) tabbed)) ∙ rw (← second.place) at (line_end_none s (i + 1) (rw (← second.place) n))
 
-        pub both : (e : End.End) → EndWithin s j e → OneOf (1 ∷ 2 ∷ []) (tag_of the_type e) → pair_at s at ≡ pair.Value a b j
+        pub both : (e : End.End) → EndWithin s j e → (e ≡ end.Tab → ⊥) → pair_at s at ≡ pair.Value a b j
         unfolding pair_at pair_of pair_told ended
         both e w k =
             let n = no_tab s j e w k in
