@@ -2,76 +2,88 @@
 -- (`read_by_letter`), and one for any other first field, refusal 3 (`no_letter`).
 use mathlib.Core.Path.{◌≡◌, refl, sym, ◌∙◌}
 use native.Mathlib.Omega.{arith}
-use Rattle.paper.specs.Refusals.{by_letter, record_of}
+use Rattle.paper.specs.Refusals.{one_byte, by_letter, record_of}
 use Rattle.records.specs.Letters.{behind_letter}
 use Rattle.sheet.proofs.LawsLetters.{read_by_letter, no_letter, other_letter}
 use Prim.Native.Nat.{ℕ, ◌+◌, ◌<◌}
 use mathlib.Core.List.{List}
+use lib.ListN.{length}
 use Rattle.paper.specs.Limits.{max_sheet}
 use Rattle.paper.specs.Text.{fields}
-use Rattle.fields.specs.Fields.{line_at, fields_behind}
+use Rattle.fields.specs.Fields.{line_at, field_at, fields_behind}
 use Rattle.records.specs.Records.{Behind}
 use Rattle.loaded.specs.Actions.{copy_step}
-use Rattle.sheet.specs.Reading.{LineRead, Progress}
+use Rattle.sheet.specs.Reading.{SheetText, LineRead, Progress}
 use Rattle.sheet.specs.declared.Lined as Lined
 use Rattle.sheet.proofs.read_line.Goals as goal
+
+-- what each letter's reader asks
+ready : {s words : List ℕ} {at x : ℕ} → SheetText s → at < length s → Progress words → x ≡ one_byte (field_at s at)
+    → (letter : ℕ) → x ≡ letter → (letter ≡ 0 → ⊥) → Behind s (at + 1) × Progress words
+ready t h p e letter is some = (behind_letter _ _ h (λ z. some (sym is ∙ (e ∙ z))) t.last t.size, p)
+
+-- what it gives is what the line gives
+lined : {s : List ℕ} {at x : ℕ} → SheetText s → at < length s → x ≡ one_byte (field_at s at) → (letter : ℕ) → x ≡ letter → (letter ≡ 0 → ⊥)
+    → {l l' : List ℕ} {r : Lined.Lined} → LineRead (by_letter letter (fields_behind s (at + 1))) s (at + 1) l l' r
+    → LineRead (record_of (fields (line_at s at))) s at l l' r
+lined t h e letter is some line = read_by_letter _ _ t h letter (sym e ∙ is) some _ refl line
 
 pub letter-requires : goal.letter-requires
 letter-requires c = (c.requires.0, c.requires.1)
 
 pub overflow_add-at : goal.overflow_add-at
-overflow_add-at c = omega (arith, (omega (arith, c.requires.1, c.requires.0.size)))
+overflow_add-at c = omega (arith, c.requires.1, c.requires.0.size)
 
 pub read_function-requires : goal.read_function-requires
-read_function-requires c = (λ letter is some. (behind_letter _ _ c.requires.1 (λ z. some (sym is ∙ (c.letter.ensures ∙ z))) c.requires.0.last c.requires.0.size, c.requires.2))70 c.in-70.is λ z. omega arith
+read_function-requires c = ready c.requires.0 c.requires.1 c.requires.2 c.letter.ensures 70 c.in-70.is λ z. omega arith
 
 pub overflow_add-at-in-84 : goal.overflow_add-at-in-84
-overflow_add-at-in-84 c = omega (arith, (omega (arith, c.requires.1, c.requires.0.size)))
+overflow_add-at-in-84 c = omega (arith, c.requires.1, c.requires.0.size)
 
 pub read_typed-requires : goal.read_typed-requires
-read_typed-requires c = (λ letter is some. (behind_letter _ _ c.requires.1 (λ z. some (sym is ∙ (c.letter.ensures ∙ z))) c.requires.0.last c.requires.0.size, c.requires.2))84 c.in-84.is λ z. omega arith
+read_typed-requires c = ready c.requires.0 c.requires.1 c.requires.2 c.letter.ensures 84 c.in-84.is λ z. omega arith
 
 pub overflow_add-at-in-66 : goal.overflow_add-at-in-66
-overflow_add-at-in-66 c = omega (arith, (omega (arith, c.requires.1, c.requires.0.size)))
+overflow_add-at-in-66 c = omega (arith, c.requires.1, c.requires.0.size)
 
 pub read_block-requires : goal.read_block-requires
-read_block-requires c = (λ letter is some. (behind_letter _ _ c.requires.1 (λ z. some (sym is ∙ (c.letter.ensures ∙ z))) c.requires.0.last c.requires.0.size, c.requires.2))66 c.in-66.is λ z. omega arith
+read_block-requires c = ready c.requires.0 c.requires.1 c.requires.2 c.letter.ensures 66 c.in-66.is λ z. omega arith
 
 pub overflow_add-at-in-83 : goal.overflow_add-at-in-83
-overflow_add-at-in-83 c = omega (arith, (omega (arith, c.requires.1, c.requires.0.size)))
+overflow_add-at-in-83 c = omega (arith, c.requires.1, c.requires.0.size)
 
 pub read_copy-requires : goal.read_copy-requires
-read_copy-requires c = (λ letter is some. (behind_letter _ _ c.requires.1 (λ z. some (sym is ∙ (c.letter.ensures ∙ z))) c.requires.0.last c.requires.0.size, c.requires.2))83 c.in-83.is λ z. omega arith
+read_copy-requires c = ready c.requires.0 c.requires.1 c.requires.2 c.letter.ensures 83 c.in-83.is λ z. omega arith
 
 pub overflow_add-at-in-76 : goal.overflow_add-at-in-76
-overflow_add-at-in-76 c = omega (arith, (omega (arith, c.requires.1, c.requires.0.size)))
+overflow_add-at-in-76 c = omega (arith, c.requires.1, c.requires.0.size)
 
 pub read_copy-requires-in-76 : goal.read_copy-requires-in-76
-read_copy-requires-in-76 c = (λ letter is some. (behind_letter _ _ c.requires.1 (λ z. some (sym is ∙ (c.letter.ensures ∙ z))) c.requires.0.last c.requires.0.size, c.requires.2))76 c.in-76.is λ z. omega arith
+read_copy-requires-in-76 c = ready c.requires.0 c.requires.1 c.requires.2 c.letter.ensures 76 c.in-76.is λ z. omega arith
 
 pub overflow_add-at-in-77 : goal.overflow_add-at-in-77
-overflow_add-at-in-77 c = omega (arith, (omega (arith, c.requires.1, c.requires.0.size)))
+overflow_add-at-in-77 c = omega (arith, c.requires.1, c.requires.0.size)
 
 pub read_copy-requires-in-77 : goal.read_copy-requires-in-77
-read_copy-requires-in-77 c = (λ letter is some. (behind_letter _ _ c.requires.1 (λ z. some (sym is ∙ (c.letter.ensures ∙ z))) c.requires.0.last c.requires.0.size, c.requires.2))77 c.in-77.is λ z. omega arith
+read_copy-requires-in-77 c = ready c.requires.0 c.requires.1 c.requires.2 c.letter.ensures 77 c.in-77.is λ z. omega arith
 
 pub overflow_add-at-in-67 : goal.overflow_add-at-in-67
-overflow_add-at-in-67 c = omega (arith, (omega (arith, c.requires.1, c.requires.0.size)))
+overflow_add-at-in-67 c = omega (arith, c.requires.1, c.requires.0.size)
 
 pub read_change-requires : goal.read_change-requires
-read_change-requires c = (λ letter is some. (behind_letter _ _ c.requires.1 (λ z. some (sym is ∙ (c.letter.ensures ∙ z))) c.requires.0.last c.requires.0.size, c.requires.2))67 c.in-67.is λ z. omega arith
+read_change-requires c = ready c.requires.0 c.requires.1 c.requires.2 c.letter.ensures 67 c.in-67.is λ z. omega arith
 
 pub overflow_add-at-in-79 : goal.overflow_add-at-in-79
-overflow_add-at-in-79 c = omega (arith, (omega (arith, c.requires.1, c.requires.0.size)))
+overflow_add-at-in-79 c = omega (arith, c.requires.1, c.requires.0.size)
 
 pub read_operation-requires : goal.read_operation-requires
-read_operation-requires c = (λ letter is some. (behind_letter _ _ c.requires.1 (λ z. some (sym is ∙ (c.letter.ensures ∙ z))) c.requires.0.last c.requires.0.size, c.requires.2))79 c.in-79.is λ z. omega arith
+read_operation-requires c = ready c.requires.0 c.requires.1 c.requires.2 c.letter.ensures 79 c.in-79.is λ z. omega arith
 
 pub overflow_add-at-in-80 : goal.overflow_add-at-in-80
-overflow_add-at-in-80 c = omega (arith, (omega (arith, c.requires.1, c.requires.0.size)))
+overflow_add-at-in-80 c = omega (arith, c.requires.1, c.requires.0.size)
 
 pub read_safepoint-requires : goal.read_safepoint-requires
-read_safepoint-requires c = (λ letter is some. (behind_letter _ _ c.requires.1 (λ z. some (sym is ∙ (c.letter.ensures ∙ z))) c.requires.0.last c.requires.0.size, c.requires.2))80 c.in-80.is λ z. omega arith
+read_safepoint-requires c = ready c.requires.0 c.requires.1 c.requires.2 c.letter.ensures 80 c.in-80.is λ z. omega arith
 
 pub shape_of-words-in-70 : goal.shape_of-words-in-70
 shape_of-words-in-70 c = c.read_function.ensures.same_length
@@ -79,7 +91,7 @@ shape_of-words-in-70 c = c.read_function.ensures.same_length
 pub returns-in-70 : goal.returns-in-70
 unfolding by_letter
 returns-in-70 c =
-    (λ letter is some line. read_by_letter _ _ c.requires.0 c.requires.1 letter (sym c.letter.ensures ∙ is) some _ refl line)70 c.in-70.is (λ z. omega arith) c.read_function.ensures
+    lined c.requires.0 c.requires.1 c.letter.ensures 70 c.in-70.is (λ z. omega arith) c.read_function.ensures
 
 pub shape_of-words-in-84 : goal.shape_of-words-in-84
 shape_of-words-in-84 c = c.read_typed.ensures.same_length
@@ -87,7 +99,7 @@ shape_of-words-in-84 c = c.read_typed.ensures.same_length
 pub returns-in-84 : goal.returns-in-84
 unfolding by_letter
 returns-in-84 c =
-    (λ letter is some line. read_by_letter _ _ c.requires.0 c.requires.1 letter (sym c.letter.ensures ∙ is) some _ refl line)84 c.in-84.is (λ z. omega arith) c.read_typed.ensures
+    lined c.requires.0 c.requires.1 c.letter.ensures 84 c.in-84.is (λ z. omega arith) c.read_typed.ensures
 
 pub shape_of-words-in-66 : goal.shape_of-words-in-66
 shape_of-words-in-66 c = c.read_block.ensures.same_length
@@ -95,7 +107,7 @@ shape_of-words-in-66 c = c.read_block.ensures.same_length
 pub returns-in-66 : goal.returns-in-66
 unfolding by_letter
 returns-in-66 c =
-    (λ letter is some line. read_by_letter _ _ c.requires.0 c.requires.1 letter (sym c.letter.ensures ∙ is) some _ refl line)66 c.in-66.is (λ z. omega arith) c.read_block.ensures
+    lined c.requires.0 c.requires.1 c.letter.ensures 66 c.in-66.is (λ z. omega arith) c.read_block.ensures
 
 pub shape_of-words-in-83 : goal.shape_of-words-in-83
 shape_of-words-in-83 c = c.read_copy.ensures.same_length
@@ -103,7 +115,7 @@ shape_of-words-in-83 c = c.read_copy.ensures.same_length
 pub returns-in-83 : goal.returns-in-83
 unfolding by_letter copy_step
 returns-in-83 c =
-    (λ letter is some line. read_by_letter _ _ c.requires.0 c.requires.1 letter (sym c.letter.ensures ∙ is) some _ refl line)83 c.in-83.is (λ z. omega arith) c.read_copy.ensures
+    lined c.requires.0 c.requires.1 c.letter.ensures 83 c.in-83.is (λ z. omega arith) c.read_copy.ensures
 
 pub shape_of-words-in-76 : goal.shape_of-words-in-76
 shape_of-words-in-76 c = c.read_copy-in-76.ensures.same_length
@@ -111,7 +123,7 @@ shape_of-words-in-76 c = c.read_copy-in-76.ensures.same_length
 pub returns-in-76 : goal.returns-in-76
 unfolding by_letter copy_step
 returns-in-76 c =
-    (λ letter is some line. read_by_letter _ _ c.requires.0 c.requires.1 letter (sym c.letter.ensures ∙ is) some _ refl line)76 c.in-76.is (λ z. omega arith) c.read_copy-in-76.ensures
+    lined c.requires.0 c.requires.1 c.letter.ensures 76 c.in-76.is (λ z. omega arith) c.read_copy-in-76.ensures
 
 pub shape_of-words-in-77 : goal.shape_of-words-in-77
 shape_of-words-in-77 c = c.read_copy-in-77.ensures.same_length
@@ -119,7 +131,7 @@ shape_of-words-in-77 c = c.read_copy-in-77.ensures.same_length
 pub returns-in-77 : goal.returns-in-77
 unfolding by_letter copy_step
 returns-in-77 c =
-    (λ letter is some line. read_by_letter _ _ c.requires.0 c.requires.1 letter (sym c.letter.ensures ∙ is) some _ refl line)77 c.in-77.is (λ z. omega arith) c.read_copy-in-77.ensures
+    lined c.requires.0 c.requires.1 c.letter.ensures 77 c.in-77.is (λ z. omega arith) c.read_copy-in-77.ensures
 
 pub shape_of-words-in-67 : goal.shape_of-words-in-67
 shape_of-words-in-67 c = c.read_change.ensures.same_length
@@ -127,7 +139,7 @@ shape_of-words-in-67 c = c.read_change.ensures.same_length
 pub returns-in-67 : goal.returns-in-67
 unfolding by_letter
 returns-in-67 c =
-    (λ letter is some line. read_by_letter _ _ c.requires.0 c.requires.1 letter (sym c.letter.ensures ∙ is) some _ refl line)67 c.in-67.is (λ z. omega arith) c.read_change.ensures
+    lined c.requires.0 c.requires.1 c.letter.ensures 67 c.in-67.is (λ z. omega arith) c.read_change.ensures
 
 pub shape_of-words-in-79 : goal.shape_of-words-in-79
 shape_of-words-in-79 c = c.read_operation.ensures.same_length
@@ -135,7 +147,7 @@ shape_of-words-in-79 c = c.read_operation.ensures.same_length
 pub returns-in-79 : goal.returns-in-79
 unfolding by_letter
 returns-in-79 c =
-    (λ letter is some line. read_by_letter _ _ c.requires.0 c.requires.1 letter (sym c.letter.ensures ∙ is) some _ refl line)79 c.in-79.is (λ z. omega arith) c.read_operation.ensures
+    lined c.requires.0 c.requires.1 c.letter.ensures 79 c.in-79.is (λ z. omega arith) c.read_operation.ensures
 
 pub shape_of-words-in-80 : goal.shape_of-words-in-80
 shape_of-words-in-80 c = c.read_safepoint.ensures.same_length
@@ -143,7 +155,7 @@ shape_of-words-in-80 c = c.read_safepoint.ensures.same_length
 pub returns-in-80 : goal.returns-in-80
 unfolding by_letter
 returns-in-80 c =
-    (λ letter is some line. read_by_letter _ _ c.requires.0 c.requires.1 letter (sym c.letter.ensures ∙ is) some _ refl line)80 c.in-80.is (λ z. omega arith) c.read_safepoint.ensures
+    lined c.requires.0 c.requires.1 c.letter.ensures 80 c.in-80.is (λ z. omega arith) c.read_safepoint.ensures
 
 pub returns-in_default : goal.returns-in_default
 returns-in_default c =

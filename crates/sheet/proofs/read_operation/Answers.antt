@@ -35,16 +35,12 @@ operation_line-line-requires c =
 pub add_operation-requires : goal.add_operation-requires
 unfolding region
 add_operation-requires c =
-    let r = (step_ready c.requires.1 c.step_place-place.ensures ((operation_clear c.operation_line-line.ensures.clear c.in-Good.is)).0) in
-    (r.some_sheet, r.some_block, r.some_room, ((let words = c.args.words.now in
-    let w = subst (λ (c : Counts). GroupsWithin c (region typed_base typed_words words) c.operation_line-line.result.operands c.in-Good.n c.in-Good.m)
-    c.counts_of-counts.ensures
-    ((operation_clear c.operation_line-line.ensures.clear c.in-Good.is)).1 in
-    (w.uses_within (sheet_of words) (counted_of words) (typed_by words), w.defs_within (sheet_of words) (counted_of words) (typed_by words)))).0, ((let words = c.args.words.now in
-    let w = subst (λ (c : Counts). GroupsWithin c (region typed_base typed_words words) c.operation_line-line.result.operands c.in-Good.n c.in-Good.m)
-    c.counts_of-counts.ensures
-    ((operation_clear c.operation_line-line.ensures.clear c.in-Good.is)).1 in
-    (w.uses_within (sheet_of words) (counted_of words) (typed_by words), w.defs_within (sheet_of words) (counted_of words) (typed_by words)))).1)
+    let words = c.args.words.now in
+    let r = step_ready c.requires.1 c.step_place-place.ensures (operation_clear c.operation_line-line.ensures.clear c.in-Good.is).0 in
+    let w = subst (λ (k : Counts). GroupsWithin k (region typed_base typed_words words) c.operation_line-line.result.operands c.in-Good.n c.in-Good.m)
+        c.counts_of-counts.ensures
+        (operation_clear c.operation_line-line.ensures.clear c.in-Good.is).1 in
+    (r.some_sheet, r.some_block, r.some_room, w.uses_within (sheet_of words) (counted_of words) (typed_by words), w.defs_within (sheet_of words) (counted_of words) (typed_by words))
 
 pub overflow_add-result : goal.overflow_add-result
 unfolding region
