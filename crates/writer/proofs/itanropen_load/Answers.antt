@@ -1,0 +1,7 @@
+-- `itanropen_load` meets its contract.
+use Rattle.writer.proofs.LawsLoad.{load_exported}
+use borrow.Author.Rules.{rules}
+use Rattle.writer.proofs.itanropen_load.Goals as goal
+
+pub returns : goal.returns
+returns c = load_exported c.load_sheet-loading.ensures c.load_verdict_of.ensures

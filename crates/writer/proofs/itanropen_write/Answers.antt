@@ -1,0 +1,7 @@
+-- `itanropen_write` meets its contract.
+use Rattle.writer.proofs.LawsSheet.{exported}
+use borrow.Author.Rules.{rules}
+use Rattle.writer.proofs.itanropen_write.Goals as goal
+
+pub returns : goal.returns
+returns c = exported c.write_sheet-written.ensures c.verdict_of.ensures

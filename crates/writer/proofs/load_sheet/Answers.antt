@@ -1,0 +1,13 @@
+-- `load_sheet` meets its contract: too few words, then by the reader's answer.
+use Rattle.writer.proofs.LawsLoad.{refused_short, read_loaded, read_refused}
+use borrow.Author.Rules.{rules}
+use Rattle.writer.proofs.load_sheet.Goals as goal
+
+pub returns-then-words-lt-WORDS_SIZE : goal.returns-then-words-lt-WORDS_SIZE
+returns-then-words-lt-WORDS_SIZE c = refused_short _ _ c.if-words-lt-WORDS_SIZE.true
+
+pub returns-in-Loaded : goal.returns-in-Loaded
+returns-in-Loaded c = read_loaded c.if-words-lt-WORDS_SIZE.false c.load-loading.ensures c.in-Loaded.is
+
+pub returns-in-Refused : goal.returns-in-Refused
+returns-in-Refused c = read_refused c.if-words-lt-WORDS_SIZE.false c.load-loading.ensures _ _ c.in-Refused.is c.clear_words.ensures

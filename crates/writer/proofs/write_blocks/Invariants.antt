@@ -1,0 +1,26 @@
+-- `write_blocks` meets its contract: whoever fills in the blocks from b on has filled in all.
+use native.Mathlib.Omega.{arith}
+use mathlib.Core.Path.{◌≡◌, refl, ap, ◌∙◌}
+use mathlib.Core.Bool.{true}
+use mathlib.Core.List.{map}
+use Prim.Native.Nat.{ℕ, ◌+◌, ◌-◌, ◌≤◌}
+use lib.ListN.{length, get_or}
+use Rattle.paper.specs.Limits.{max_sheet}
+use Rattle.paper.specs.Writing.{records_text, block_records}
+use Rattle.layout.specs.Layout.{opened_word}
+use Rattle.loaded.specs.Loaded.{blocks_at}
+use Rattle.loaded.specs.declared.Reached.{Reached}
+use Rattle.writer.specs.Form.{fits}
+use Rattle.writer.specs.Filled.{line_room, length_filled}
+use Rattle.writer.proofs.LawsLeft.{Fills, all_unfilled, less_unfilled, none_unfilled}
+use Rattle.writer.proofs.LawsText.{blocks_left, blocks_next, blocks_begin, blocks_end, fitting}
+use borrow.Author.Rules.{rules}
+use Rattle.writer.proofs.write_blocks.Given as goal
+
+abbrev pub invariant-loop-b : goal.invariant-loop-b
+invariant-loop-b l =
+    (l.b ≤ l.opened) × (l.opened ≡ get_or l.words opened_word 0) × (fits l.words ≡ true) × (max_sheet + line_room ≤ length l.initial.text) × (length l.text ≡ length l.initial.text)
+    × Fills l.initial.text l.at (records_text (block_records (blocks_at l.words 0 (get_or l.words opened_word 0)))) l.text l.next (blocks_left l.words l.opened l.b)
+
+abbrev pub decreases-loop-b : goal.decreases-loop-b
+decreases-loop-b l = l.opened - l.b
