@@ -3,7 +3,6 @@ use native.Mathlib.Omega.{arith}
 use Rattle.checker.specs.Lengths.{short_report, short_words, by_queue}
 use Rattle.checker.proofs.too_short.Goals as goal
 
--- the prover's list of needs
 pub returns-then-report-size : goal.returns-then-report-size
 returns-then-report-size c = short_report _ _ _ _ c.if-report-size.true
 

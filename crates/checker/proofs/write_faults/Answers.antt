@@ -21,10 +21,10 @@ analyze-requires c =
     (c.requires.0, (nothing_missing c.find_missing-missing.ensures c.in_default.is), omega arith, omega arith)
 
 pub write_errors-requires : goal.write_errors-requires
-write_errors-requires c = ((checkable c.requires.0 c.requires.1 ((nothing_missing c.find_missing-missing.ensures c.in_default.is)) c.requires.3 c.analyze.ensures.0), omega arith)
+write_errors-requires c = ((checkable c.requires.0 c.requires.1 (nothing_missing c.find_missing-missing.ensures c.in_default.is) c.requires.3 c.analyze.ensures.0), omega arith)
 
 pub returns : goal.returns
 returns c =
     let e = c.analyze.ensures.0 in
-    let same = same_sheet c.requires.0 c.requires.1 ((nothing_missing c.find_missing-missing.ensures c.in_default.is)) c.requires.3 e in
+    let same = same_sheet c.requires.0 c.requires.1 (nothing_missing c.find_missing-missing.ensures c.in_default.is) c.requires.3 e in
     reported (rw same at c.write_errors.ensures) e.kept.same_length e.same_length

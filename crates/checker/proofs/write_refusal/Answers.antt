@@ -11,7 +11,7 @@ write_before_number-b-requires c =
     omega (arith, length_wrote c.write_byte-a.ensures, length_digits c.args.refusal.number)
 
 pub overflow_cast-refusal-2 : goal.overflow_cast-refusal-2
-overflow_cast-refusal-2 c = omega (arith, ((c)).requires.0)
+overflow_cast-refusal-2 c = omega (arith, c.requires.0)
 
 pub write_before_number-c-requires : goal.write_before_number-c-requires
 write_before_number-c-requires c =
@@ -19,7 +19,7 @@ write_before_number-c-requires c =
     omega (arith, length_wrote c.write_byte-a.ensures, length_wrote c.write_before_number-b.ensures, length_digits refusal.number, length_digits refusal.line)
 
 pub overflow_cast-refusal-3 : goal.overflow_cast-refusal-3
-overflow_cast-refusal-3 c = omega (arith, ((c)).requires.0)
+overflow_cast-refusal-3 c = omega (arith, c.requires.0)
 
 pub write_before_number-d-requires : goal.write_before_number-d-requires
 write_before_number-d-requires c =

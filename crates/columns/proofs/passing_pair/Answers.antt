@@ -13,14 +13,14 @@ unfolding pair_passing
 returns-in_default c = sym ((number_shows _ _ c.passing_number.ensures c.in_default.is).stops _)
 
 pub passing_number-requires-2 : goal.passing_number-requires-2
-passing_number-requires-2 c = (((number_passes _ _ c.passing_number.ensures c.in-Value.is).0)).field.behind
+passing_number-requires-2 c = ((number_passes _ _ c.passing_number.ensures c.in-Value.is).0).field.behind
 
 pub returns-in_default-passing_number : goal.returns-in_default-passing_number
 unfolding pair_passing
 returns-in_default-passing_number c =
-    sym (passed_on (((number_passes _ _ c.passing_number.ensures c.in-Value.is).0)) _ ((number_shows _ _ c.passing_number-2.ensures c.in_default-passing_number.is).stops _))
+    sym (passed_on ((number_passes _ _ c.passing_number.ensures c.in-Value.is).0) _ ((number_shows _ _ c.passing_number-2.ensures c.in_default-passing_number.is).stops _))
 
 pub returns : goal.returns
 unfolding pair_passing
 returns c =
-    sym (passed_on (((number_passes _ _ c.passing_number.ensures c.in-Value.is).0)) _ (passed_on (number_passes _ _ c.passing_number-2.ensures c.in-Value-passing_number.is).0 _ refl))
+    sym (passed_on ((number_passes _ _ c.passing_number.ensures c.in-Value.is).0) _ (passed_on (number_passes _ _ c.passing_number-2.ensures c.in-Value-passing_number.is).0 _ refl))

@@ -14,13 +14,13 @@ unfolding safepoint_passing
 returns-in_default c = sym ((number_shows _ _ c.passing_number.ensures c.in_default.is).stops _)
 
 pub passing_numbers-requires : goal.passing_numbers-requires
-passing_numbers-requires c = (((number_passes _ _ c.passing_number.ensures c.in-Value.is).0)).field.behind
+passing_numbers-requires c = ((number_passes _ _ c.passing_number.ensures c.in-Value.is).0).field.behind
 
 pub overflow_add-result : goal.overflow_add-result
-overflow_add-result c = omega (arith, numbers_small _ _ _ (((number_passes _ _ c.passing_number.ensures c.in-Value.is).0)).field.behind c.passing_numbers.ensures)
+overflow_add-result c = omega (arith, numbers_small _ _ _ ((number_passes _ _ c.passing_number.ensures c.in-Value.is).0).field.behind c.passing_numbers.ensures)
 
 pub returns : goal.returns
 unfolding safepoint_passing
 returns c =
     let e = c.passing_numbers.ensures in
-    sym (passed_on (((number_passes _ _ c.passing_number.ensures c.in-Value.is).0)) _ (sym e) ∙ (omega arith))
+    sym (passed_on ((number_passes _ _ c.passing_number.ensures c.in-Value.is).0) _ (sym e) ∙ (omega arith))

@@ -22,13 +22,13 @@ pub returns-then-s-next : goal.returns-then-s-next
 returns-then-s-next c = record { value = text_past c.loop-i.invariant c.loop-i-test.true c.if-s-next.true; within = tt }
 
 pub returns-then-s-next-2 : goal.returns-then-s-next-2
-returns-then-s-next-2 c = record { value = text_other c.loop-i.invariant c.loop-i-test.true (omega (arith, c.if-s-next.false)) ((let told = rw c.in-Neither.is at c.ends.ensures.within in
-    inner _ told.0 told.1)) c.if-s-next-2.true; within = tt }
+returns-then-s-next-2 c = record { value = text_other c.loop-i.invariant c.loop-i-test.true (omega (arith, c.if-s-next.false)) (let told = rw c.in-Neither.is at c.ends.ensures.within in
+    inner _ told.0 told.1) c.if-s-next-2.true; within = tt }
 
 pub loop-i-preserved : goal.loop-i-preserved
 loop-i-preserved c =
-    texting_more c.loop-i.invariant c.loop-i-test.true (omega (arith, c.if-s-next.false)) ((let told = rw c.in-Neither.is at c.ends.ensures.within in
-    inner _ told.0 told.1)) c.if-s-next-2.false
+    texting_more c.loop-i.invariant c.loop-i-test.true (omega (arith, c.if-s-next.false)) (let told = rw c.in-Neither.is at c.ends.ensures.within in
+    inner _ told.0 told.1) c.if-s-next-2.false
 
 pub returns-then-s-next-3 : goal.returns-then-s-next-3
 returns-then-s-next-3 c =

@@ -5,7 +5,6 @@ use Rattle.faults.proofs.LawsBlock.{BlockWithin, block_within, unmarked_entries,
 use borrow.Author.Rules.{rules}
 use Rattle.faults.proofs.block_lines.Goals as goal
 
--- the prover's list of needs
 pub overflow_add-block : goal.overflow_add-block
 overflow_add-block c = omega (arith, (block_within c.requires.0.loaded c.requires.1))
 
@@ -13,7 +12,7 @@ pub bounds-words-block : goal.bounds-words-block
 bounds-words-block c = omega (arith, (block_within c.requires.0.loaded c.requires.1), c.requires.0.room)
 
 pub note_unreached-requires : goal.note_unreached-requires
-note_unreached-requires c = (((block_within c.requires.0.loaded c.requires.1)).few, omega arith)
+note_unreached-requires c = ((block_within c.requires.0.loaded c.requires.1).few, omega arith)
 
 pub returns-then-words-block-eq0 : goal.returns-then-words-block-eq0
 returns-then-words-block-eq0 c = (rw (unmarked_entries c.requires.0 c.requires.1 c.if-words-block-eq0.true) c.note_unreached.ensures.0, omega arith)

@@ -47,7 +47,7 @@ load-t-requires c = let w = (block_within c.requires.0.loaded c.requires.1) in
     omega arith
 
 pub loop-place-init : goal.loop-place-init
-loop-place-init c = (omega arith, omega arith, refl, so_far_none c.requires.0 c.requires.1 _ _ _ _ (c.load-t.ensures _ ((block_within c.requires.0.loaded c.requires.1)).rows))
+loop-place-init c = (omega arith, omega arith, refl, so_far_none c.requires.0 c.requires.1 _ _ _ _ (c.load-t.ensures _ (block_within c.requires.0.loaded c.requires.1).rows))
 
 pub overflow_add-first : goal.overflow_add-first
 overflow_add-first c = omega (arith, (block_within c.requires.0.loaded c.requires.1))
@@ -78,7 +78,7 @@ loop-place-preserved c = (
       omega arith,
       omega arith,
       so_far_more _ _ _ (here c.args.words.now c.args.block c.loop-place.place c.first_step-first.ensures c.action_at-action.ensures) (c.check-error.ensures _ (runs c.requires.0 c.requires.1 c.first_step-first.ensures c.action_at-action.ensures c.step_total-count.ensures c.loop-place-test.true)) (c.inst_of-inst.ensures _)
-          (c.update.ensures _ ((block_within c.requires.0.loaded c.requires.1)).rows (runs c.requires.0 c.requires.1 c.first_step-first.ensures c.action_at-action.ensures c.step_total-count.ensures c.loop-place-test.true) _ (rw (here c.args.words.now c.args.block c.loop-place.place c.first_step-first.ensures c.action_at-action.ensures) (honest_at c.requires.0.loaded _ c.requires.1 _ (omega arith))))
+          (c.update.ensures _ (block_within c.requires.0.loaded c.requires.1).rows (runs c.requires.0 c.requires.1 c.first_step-first.ensures c.action_at-action.ensures c.step_total-count.ensures c.loop-place-test.true) _ (rw (here c.args.words.now c.args.block c.loop-place.place c.first_step-first.ensures c.action_at-action.ensures) (honest_at c.requires.0.loaded _ c.requires.1 _ (omega arith))))
           c.loop-place.invariant.3 c.count_or_write-next.ensures.0,
     )
 

@@ -9,7 +9,6 @@ use Rattle.faults.proofs.LawsOperands.{missing_none, counted_more, counted_same}
 use Rattle.faults.proofs.count_missing.Goals as goal
 use Rattle.faults.proofs.count_missing.Goals.{then-words-from-eq-NO_REGISTER, else-words-from-eq-NO_REGISTER}
 
--- the prover's list of needs
 pub loop-i-init : goal.loop-i-init
 loop-i-init c = (omega arith, omega arith, ap length (sym (missing_none _ _)))
 

@@ -10,7 +10,6 @@ use Rattle.faults.proofs.LawsPasses.{pass_nothing, pass_counted, pass_written}
 use borrow.Author.Rules.{rules}
 use Rattle.faults.proofs.count_or_write.Goals as goal
 
--- the prover's list of needs
 pub fields_of-fault-requires : goal.fields_of-fault-requires
 fields_of-fault-requires c = c.requires.1
 

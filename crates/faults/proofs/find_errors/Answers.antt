@@ -12,7 +12,6 @@ use Rattle.faults.proofs.LawsBlock.{count_next, count_within, blocks_none, block
 use borrow.Author.Rules.{rules}
 use Rattle.faults.proofs.find_errors.Goals as goal
 
--- the prover's list of needs
 pub blocks-blocks-requires : goal.blocks-blocks-requires
 blocks-blocks-requires c = c.requires.0.loaded.bounds.size
 

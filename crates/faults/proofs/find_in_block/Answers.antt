@@ -12,7 +12,6 @@ use Rattle.faults.proofs.LawsMissing.{left, missing_start, missing_here, missing
 use borrow.Author.Rules.{rules}
 use Rattle.faults.proofs.find_in_block.Goals as goal
 
--- the prover's list of needs
 pub first_step-first-requires : goal.first_step-first-requires
 first_step-first-requires c = let w = (block_within c.requires.0 c.requires.1) in
     (omega arith, omega arith)
@@ -33,7 +32,7 @@ action_at-action-requires c = let w = (block_within c.requires.0 c.requires.1) i
 
 pub missing-requires : goal.missing-requires
 missing-requires c = let w = (block_within c.requires.0 c.requires.1) in
-    rw ((c.action_at-action.ensures ∙ ap (λ (n : ℕ). action_at c.args.words.now (n + c.loop-place.place)) c.first_step-first.ensures)) (room_at c.requires.0 (first_step c.args.words.now c.args.block + c.loop-place.place) (omega arith))
+    rw (c.action_at-action.ensures ∙ ap (λ (n : ℕ). action_at c.args.words.now (n + c.loop-place.place)) c.first_step-first.ensures) (room_at c.requires.0 (first_step c.args.words.now c.args.block + c.loop-place.place) (omega arith))
 
 pub returns-then-missing : goal.returns-then-missing
 unfolding missing_lines
@@ -41,7 +40,7 @@ returns-then-missing c = let w = (block_within c.requires.0 c.requires.1) in
     let place = c.loop-place.place in
     let at : ℕ → List Line = λ n. step_lines c.args.block place (step_of c.args.words.now (action_at c.args.words.now (n + place))) in
     let some = sym c.missing.ensures ∙ c.if-missing.true in
-    let found = rw ((c.action_at-action.ensures ∙ ap (λ (n : ℕ). action_at c.args.words.now (n + c.loop-place.place)) c.first_step-first.ensures)) at some in
+    let found = rw (c.action_at-action.ensures ∙ ap (λ (n : ℕ). action_at c.args.words.now (n + c.loop-place.place)) c.first_step-first.ensures) at some in
     record {
       lines = rw (steps_in_words _ _ w.opened) (c.loop-place.invariant.1 ∙ missing_here _ _ _ _ _ (omega arith) found ∙ ap at (sym c.first_step-first.ensures));
       within = (omega arith, omega arith, omega arith, rw c.action_at-action.ensures at some);
@@ -51,9 +50,9 @@ pub overflow_add-place : goal.overflow_add-place
 overflow_add-place c = omega (arith, (block_within c.requires.0 c.requires.1))
 
 pub loop-place-preserved : goal.loop-place-preserved
-loop-place-preserved c = let none = rw ((c.action_at-action.ensures ∙ ap (λ (n : ℕ). action_at c.args.words.now (n + c.loop-place.place)) c.first_step-first.ensures)) at (sym c.missing.ensures ∙ c.if-missing.false) in
+loop-place-preserved c = let none = rw (c.action_at-action.ensures ∙ ap (λ (n : ℕ). action_at c.args.words.now (n + c.loop-place.place)) c.first_step-first.ensures) at (sym c.missing.ensures ∙ c.if-missing.false) in
     (omega arith, c.loop-place.invariant.1 ∙ missing_later _ _ _ _ _ (omega arith) none)
 
 pub returns : goal.returns
 unfolding missing_lines
-returns c = record { lines = rw (steps_in_words _ _ ((block_within c.requires.0 c.requires.1)).opened) (c.loop-place.invariant.1 ∙ missing_ended _ _ _ _ _ (omega arith)); within = tt }
+returns c = record { lines = rw (steps_in_words _ _ (block_within c.requires.0 c.requires.1).opened) (c.loop-place.invariant.1 ∙ missing_ended _ _ _ _ _ (omega arith)); within = tt }

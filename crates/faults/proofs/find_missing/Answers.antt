@@ -10,7 +10,6 @@ use Rattle.faults.proofs.LawsMissing.{blocks_start, block_here, block_later, blo
 use borrow.Author.Rules.{rules}
 use Rattle.faults.proofs.find_missing.Goals as goal
 
--- the prover's list of needs
 pub blocks-count-requires : goal.blocks-count-requires
 blocks-count-requires c = c.requires.bounds.size
 

@@ -8,7 +8,6 @@ use Rattle.faults.proofs.LawsReported.{none_counted, errors_accepted, errors_fau
 use borrow.Author.Rules.{rules}
 use Rattle.faults.proofs.write_errors.Goals as goal
 
--- the prover's list of needs
 pub find_errors-count-requires : goal.find_errors-count-requires
 find_errors-count-requires c = (c.requires.0, omega arith)
 

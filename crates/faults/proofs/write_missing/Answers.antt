@@ -33,7 +33,6 @@ other words (Change inst k from to) h e = true≢false (sym e)
 other words (Operation inst at n m) h e = miss (0 ∷ 1 ∷ 3 ∷ []) 2 tt h
 other words (Safepoint inst mask) h e = true≢false (sym e)
 
--- the prover's list of needs
 pub action_at-requires : goal.action_at-requires
 action_at-requires c = (omega (arith, c.requires.0.bounds, c.requires.1.within), omega (arith, c.requires.0.bounds))
 
@@ -47,7 +46,7 @@ missing_among-requires c = omega (arith, (subst (λ (a : Action). RoomFor a c.ar
 pub write_missing_among-requires : goal.write_missing_among-requires
 write_missing_among-requires c = let r = (subst (λ (a : Action). RoomFor a c.args.words.now) (sym c.action_at.ensures ∙ c.in-Operation.is)
     (room_at c.requires.0 c.args.k c.requires.1.within.2)) in
-    (omega arith, omega arith, ((omega (arith, c.requires.0.bounds.blocks, c.requires.1.within), c.requires.1.within.1)), c.requires.2, sym c.missing_among.ensures ∙ c.if-missing_among.true)
+    (omega arith, omega arith, (omega (arith, c.requires.0.bounds.blocks, c.requires.1.within), c.requires.1.within.1), c.requires.2, sym c.missing_among.ensures ∙ c.if-missing_among.true)
 
 pub returns-then-missing_among : goal.returns-then-missing_among
 returns-then-missing_among c = rw ((rw (sym c.action_at.ensures ∙ c.in-Operation.is) at (entries_missing c.args.rule c.args.words.now c.args.block c.args.place c.args.k c.requires.1)), lines_of_uses _ _ _ _ _ _ _ (sym c.missing_among.ensures ∙ c.if-missing_among.true)) c.write_missing_among.ensures
@@ -61,7 +60,7 @@ write_missing_among-requires-2 c = let r = (subst (λ (a : Action). RoomFor a c.
     (room_at c.requires.0 c.args.k c.requires.1.within.2)) in (
       omega arith,
       omega arith,
-      ((omega (arith, c.requires.0.bounds.blocks, c.requires.1.within), c.requires.1.within.1)),
+      (omega (arith, c.requires.0.bounds.blocks, c.requires.1.within), c.requires.1.within.1),
       c.requires.2,
       some_defs _ _ _ _ _ (sym c.missing_among.ensures ∙ c.if-missing_among.false) (rw (sym c.action_at.ensures ∙ c.in-Operation.is) at c.requires.1.within.3),
     )

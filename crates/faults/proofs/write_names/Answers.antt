@@ -11,7 +11,6 @@ use Rattle.faults.proofs.LawsOperands.{wrote_none, wrote_more}
 use borrow.Author.Rules.{rules}
 use Rattle.faults.proofs.write_names.Goals as goal
 
--- the prover's list of needs
 pub loop-i-init : goal.loop-i-init
 loop-i-init c = (omega arith, omega arith, refl, wrote_none _ _ _ _ _)
 

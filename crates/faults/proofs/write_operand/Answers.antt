@@ -6,7 +6,6 @@ use Rattle.faults.proofs.LawsOperands.{line_missing, no_line_missing}
 use borrow.Author.Rules.{rules}
 use Rattle.faults.proofs.write_operand.Goals as goal
 
--- the prover's list of needs
 pub returns-then-operand-ne-NO_REGISTER : goal.returns-then-operand-ne-NO_REGISTER
 returns-then-operand-ne-NO_REGISTER c = rw (no_line_missing _ _ c.if-operand-ne-NO_REGISTER.true) (record { list = refl; next = omega arith }, omega arith)
 

@@ -14,7 +14,6 @@ use borrow.Author.Rules.{rules}
 use Rattle.faults.proofs.write_unmarked.Goals as goal
 use Rattle.faults.proofs.write_unmarked.Goals.{then-words-block-eq0, else-words-block-eq0}
 
--- the prover's list of needs
 pub blocks-total-requires : goal.blocks-total-requires
 blocks-total-requires c = c.requires.0.bounds.size
 

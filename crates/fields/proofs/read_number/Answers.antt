@@ -12,13 +12,13 @@ pub returns-then-not-is_digit : goal.returns-then-not-is_digit
 returns-then-not-is_digit c = record { value = bad_first _ _ (omega arith) (sym c.is_digit.ensures ∙ c.if-not-is_digit.true); within = tt }
 
 pub overflow_cast-v : goal.overflow_cast-v
-overflow_cast-v c = omega (arith, digit_range _ ((sym c.is_digit.ensures ∙ c.if-not-is_digit.false)))
+overflow_cast-v c = omega (arith, digit_range _ (sym c.is_digit.ensures ∙ c.if-not-is_digit.false))
 
 pub overflow_sub-v : goal.overflow_sub-v
-overflow_sub-v c = omega (arith, digit_range _ ((sym c.is_digit.ensures ∙ c.if-not-is_digit.false)))
+overflow_sub-v c = omega (arith, digit_range _ (sym c.is_digit.ensures ∙ c.if-not-is_digit.false))
 
 pub loop-i-init : goal.loop-i-init
-loop-i-init c = led_first _ _ (omega arith) ((sym c.is_digit.ensures ∙ c.if-not-is_digit.false))
+loop-i-init c = led_first _ _ (omega arith) (sym c.is_digit.ensures ∙ c.if-not-is_digit.false)
 
 pub returns-then-not-is_digit-2 : goal.returns-then-not-is_digit-2
 returns-then-not-is_digit-2 c =
@@ -27,23 +27,23 @@ returns-then-not-is_digit-2 c =
     record { value = led_other c.loop-i.invariant c.loop-i-test.true inner other; within = tt }
 
 pub returns-then-v-eq0 : goal.returns-then-v-eq0
-returns-then-v-eq0 c = record { value = led_zero c.loop-i.invariant c.loop-i-test.true ((sym c.is_digit-in-loop-i.ensures ∙ c.if-not-is_digit-2.false)) c.if-v-eq0.true; within = tt }
+returns-then-v-eq0 c = record { value = led_zero c.loop-i.invariant c.loop-i-test.true (sym c.is_digit-in-loop-i.ensures ∙ c.if-not-is_digit-2.false) c.if-v-eq0.true; within = tt }
 
 pub returns-then-v-gt9999 : goal.returns-then-v-gt9999
-returns-then-v-gt9999 c = record { value = led_many c.loop-i.invariant c.loop-i-test.true ((sym c.is_digit-in-loop-i.ensures ∙ c.if-not-is_digit-2.false)) c.if-v-gt9999.true; within = tt }
+returns-then-v-gt9999 c = record { value = led_many c.loop-i.invariant c.loop-i-test.true (sym c.is_digit-in-loop-i.ensures ∙ c.if-not-is_digit-2.false) c.if-v-gt9999.true; within = tt }
 
 pub overflow_cast-v-in-loop-i : goal.overflow_cast-v-in-loop-i
-overflow_cast-v-in-loop-i c = omega (arith, digit_range _ ((sym c.is_digit-in-loop-i.ensures ∙ c.if-not-is_digit-2.false)))
+overflow_cast-v-in-loop-i c = omega (arith, digit_range _ (sym c.is_digit-in-loop-i.ensures ∙ c.if-not-is_digit-2.false))
 
 pub overflow_sub-v-in-loop-i : goal.overflow_sub-v-in-loop-i
-overflow_sub-v-in-loop-i c = omega (arith, digit_range _ ((sym c.is_digit-in-loop-i.ensures ∙ c.if-not-is_digit-2.false)))
+overflow_sub-v-in-loop-i c = omega (arith, digit_range _ (sym c.is_digit-in-loop-i.ensures ∙ c.if-not-is_digit-2.false))
 
 pub overflow_add-v : goal.overflow_add-v
-overflow_add-v c = omega (arith, digit_range _ ((sym c.is_digit-in-loop-i.ensures ∙ c.if-not-is_digit-2.false)))
+overflow_add-v c = omega (arith, digit_range _ (sym c.is_digit-in-loop-i.ensures ∙ c.if-not-is_digit-2.false))
 
 pub loop-i-preserved : goal.loop-i-preserved
 loop-i-preserved c =
-    led_more c.loop-i.invariant c.loop-i-test.true ((sym c.is_digit-in-loop-i.ensures ∙ c.if-not-is_digit-2.false)) c.if-v-eq0.false c.if-v-gt9999.false
+    led_more c.loop-i.invariant c.loop-i-test.true (sym c.is_digit-in-loop-i.ensures ∙ c.if-not-is_digit-2.false) c.if-v-eq0.false c.if-v-gt9999.false
 
 pub returns-after-loop-i : goal.returns-after-loop-i
 returns-after-loop-i c =

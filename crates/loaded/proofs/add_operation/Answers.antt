@@ -23,7 +23,7 @@ add_step-requires c =
       begun_still c.args.row words stored e p.0,
       rw same.0 p.1,
       rw same.1 p.2,
-      operation_fits c.args.row words stored e ((c.well_formed.1.1.0.1.0.1)) (operands_room _ p.0) p.0 _ _ _ p.3 p.4,
+      operation_fits c.args.row words stored e c.well_formed.1.1.0.1.0.1 (operands_room _ p.0) p.0 _ _ _ p.3 p.4,
     )
 
 pub returns : goal.returns
@@ -33,5 +33,5 @@ returns c =
     let stored = c.store_operands.new.words in
     let e = c.store_operands.ensures in
     stored_from c.args.row words stored e p.0
-    (ap step_record (operation_stored c.args.row words stored e ((c.well_formed.1.1.0.1.0.1)) (operands_room _ p.0) _ _ _ p.3.few p.4.few))
+    (ap step_record (operation_stored c.args.row words stored e c.well_formed.1.1.0.1.0.1 (operands_room _ p.0) _ _ _ p.3.few p.4.few))
     c.add_step.ensures

@@ -22,10 +22,10 @@ any_beyond-beyond-requires c = c.read_numbers-read.ensures.few
 
 pub returns-in-Breaks : goal.returns-in-Breaks
 unfolding block_told
-returns-in-Breaks c = record { by_index = λ so p h. breaks so (block_says c.read_numbers-read.ensures c.in-Good.is) ((judged_by (block_tested _ (p _) h c.any_beyond-beyond.ensures) c.lowest-judged.ensures)) _ c.in-Breaks.is; clear = tt }
+returns-in-Breaks c = record { by_index = λ so p h. breaks so (block_says c.read_numbers-read.ensures c.in-Good.is) (judged_by (block_tested _ (p _) h c.any_beyond-beyond.ensures) c.lowest-judged.ensures) _ c.in-Breaks.is; clear = tt }
 
 pub returns-in-Passes : goal.returns-in-Passes
 unfolding block_told
 returns-in-Passes c =
     let r = c.read_numbers-read.ensures in
-    let clear = clear_of c.lowest-judged.ensures c.in-Passes.is in record { by_index = λ so p h. passes so (block_says r c.in-Good.is) ((judged_by (block_tested _ (p _) h c.any_beyond-beyond.ensures) c.lowest-judged.ensures)) c.in-Passes.is (((numbers_good c.read_numbers-read.ensures c.in-Good.is).1)).place; clear = (in_place (((numbers_good c.read_numbers-read.ensures c.in-Good.is).1)) clear, block_within r.few r.room c.any_beyond-beyond.ensures clear.within) }
+    let clear = clear_of c.lowest-judged.ensures c.in-Passes.is in record { by_index = λ so p h. passes so (block_says r c.in-Good.is) (judged_by (block_tested _ (p _) h c.any_beyond-beyond.ensures) c.lowest-judged.ensures) c.in-Passes.is ((numbers_good c.read_numbers-read.ensures c.in-Good.is).1).place; clear = (in_place ((numbers_good c.read_numbers-read.ensures c.in-Good.is).1) clear, block_within r.few r.room c.any_beyond-beyond.ensures clear.within) }

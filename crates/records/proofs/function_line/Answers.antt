@@ -22,9 +22,9 @@ returns-in_default c = record { result_value = λ so p. ill_formed so _ (functio
 
 pub returns-in-Breaks : goal.returns-in-Breaks
 unfolding function_line
-returns-in-Breaks c = record { result_value = λ so p. breaks so (function_says c.read_exactly-read.ensures c.in-Good.is) ((judged_by (function_tested _ _ _ _ _ (p _ _ _ _ _) (c.function_beyond-beyond.ensures (so_far_of so))) c.lowest-judged.ensures)) _ c.in-Breaks.is; clear = tt }
+returns-in-Breaks c = record { result_value = λ so p. breaks so (function_says c.read_exactly-read.ensures c.in-Good.is) (judged_by (function_tested _ _ _ _ _ (p _ _ _ _ _) (c.function_beyond-beyond.ensures (so_far_of so))) c.lowest-judged.ensures) _ c.in-Breaks.is; clear = tt }
 
 pub returns-in-Passes : goal.returns-in-Passes
 unfolding function_line
 returns-in-Passes c =
-    let clear = clear_of c.lowest-judged.ensures c.in-Passes.is in record { result_value = λ so p. passes so (function_says c.read_exactly-read.ensures c.in-Good.is) ((judged_by (function_tested _ _ _ _ _ (p _ _ _ _ _) (c.function_beyond-beyond.ensures (so_far_of so))) c.lowest-judged.ensures)) c.in-Passes.is (((exactly_good c.read_exactly-read.ensures c.in-Good.is).1)).place; clear = (in_place (((exactly_good c.read_exactly-read.ensures c.in-Good.is).1)) clear, function_within blank _ _ _ _ _ (c.function_beyond-beyond.ensures blank) clear.within) }
+    let clear = clear_of c.lowest-judged.ensures c.in-Passes.is in record { result_value = λ so p. passes so (function_says c.read_exactly-read.ensures c.in-Good.is) (judged_by (function_tested _ _ _ _ _ (p _ _ _ _ _) (c.function_beyond-beyond.ensures (so_far_of so))) c.lowest-judged.ensures) c.in-Passes.is ((exactly_good c.read_exactly-read.ensures c.in-Good.is).1).place; clear = (in_place ((exactly_good c.read_exactly-read.ensures c.in-Good.is).1) clear, function_within blank _ _ _ _ _ (c.function_beyond-beyond.ensures blank) clear.within) }

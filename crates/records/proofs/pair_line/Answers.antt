@@ -22,9 +22,9 @@ returns-in_default c = record { result_value = λ so step p h. ill_formed so _ (
 
 pub returns-in-Breaks : goal.returns-in-Breaks
 unfolding pair_line
-returns-in-Breaks c = record { result_value = λ so step p h. breaks so (pair_says step c.read_exactly-read.ensures c.in-Good.is) ((judged_by (pair_tested step _ _ (p _) h) c.lowest-judged.ensures)) _ c.in-Breaks.is; clear = tt }
+returns-in-Breaks c = record { result_value = λ so step p h. breaks so (pair_says step c.read_exactly-read.ensures c.in-Good.is) (judged_by (pair_tested step _ _ (p _) h) c.lowest-judged.ensures) _ c.in-Breaks.is; clear = tt }
 
 pub returns-in-Passes : goal.returns-in-Passes
 unfolding pair_line
 returns-in-Passes c =
-    let clear = clear_of c.lowest-judged.ensures c.in-Passes.is in record { result_value = λ so step p h. passes so (pair_says step c.read_exactly-read.ensures c.in-Good.is) ((judged_by (pair_tested step _ _ (p _) h) c.lowest-judged.ensures)) c.in-Passes.is (((exactly_good c.read_exactly-read.ensures c.in-Good.is).1)).place; clear = (in_place (((exactly_good c.read_exactly-read.ensures c.in-Good.is).1)) clear, pair_within _ _ _ _ clear.within) }
+    let clear = clear_of c.lowest-judged.ensures c.in-Passes.is in record { result_value = λ so step p h. passes so (pair_says step c.read_exactly-read.ensures c.in-Good.is) (judged_by (pair_tested step _ _ (p _) h) c.lowest-judged.ensures) c.in-Passes.is ((exactly_good c.read_exactly-read.ensures c.in-Good.is).1).place; clear = (in_place ((exactly_good c.read_exactly-read.ensures c.in-Good.is).1) clear, pair_within _ _ _ _ clear.within) }

@@ -23,9 +23,9 @@ returns-in_default c = record { by_index = λ so p h m. ill_formed so _ (typed_b
 
 pub returns-in-Breaks : goal.returns-in-Breaks
 unfolding typed_line
-returns-in-Breaks c = record { by_index = λ so p h m. breaks so (typed_says c.read_exactly-read.ensures c.in-Good.is) ((judged_by (typed_tested _ (p _) h m) c.lowest-judged.ensures)) _ c.in-Breaks.is; clear = tt }
+returns-in-Breaks c = record { by_index = λ so p h m. breaks so (typed_says c.read_exactly-read.ensures c.in-Good.is) (judged_by (typed_tested _ (p _) h m) c.lowest-judged.ensures) _ c.in-Breaks.is; clear = tt }
 
 pub returns-in-Passes : goal.returns-in-Passes
 unfolding typed_line
 returns-in-Passes c =
-    let clear = clear_of c.lowest-judged.ensures c.in-Passes.is in record { by_index = λ so p h m. passes so (typed_says c.read_exactly-read.ensures c.in-Good.is) ((judged_by (typed_tested _ (p _) h m) c.lowest-judged.ensures)) c.in-Passes.is (((exactly_good c.read_exactly-read.ensures c.in-Good.is).1)).place; clear = (in_place (((exactly_good c.read_exactly-read.ensures c.in-Good.is).1)) clear, record { name_below = leb-false _ _ clear.within; name_ascends = ltb-false _ _ clear.ordered }) }
+    let clear = clear_of c.lowest-judged.ensures c.in-Passes.is in record { by_index = λ so p h m. passes so (typed_says c.read_exactly-read.ensures c.in-Good.is) (judged_by (typed_tested _ (p _) h m) c.lowest-judged.ensures) c.in-Passes.is ((exactly_good c.read_exactly-read.ensures c.in-Good.is).1).place; clear = (in_place ((exactly_good c.read_exactly-read.ensures c.in-Good.is).1) clear, record { name_below = leb-false _ _ clear.within; name_ascends = ltb-false _ _ clear.ordered }) }

@@ -7,7 +7,6 @@ use Rattle.report.proofs.LawsLines.{fields_room}
 use borrow.Author.Rules.{rules}
 use Rattle.report.proofs.write_fields.Goals as goal
 
--- the prover's list of needs
 pub write_before_number-a-requires : goal.write_before_number-a-requires
 write_before_number-a-requires c = omega (arith, fields_room _ _ _ c.requires)
 

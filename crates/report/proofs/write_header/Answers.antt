@@ -6,7 +6,6 @@ use Rattle.report.proofs.LawsLines.{header_room}
 use borrow.Author.Rules.{rules}
 use Rattle.report.proofs.write_header.Goals as goal
 
--- the prover's list of needs
 pub write_byte-a-requires : goal.write_byte-a-requires
 write_byte-a-requires c = omega (arith, header_room _ _ _ _ c.requires.1)
 

@@ -7,7 +7,6 @@ use Rattle.report.specs.Lengths.{unreached_length}
 use borrow.Author.Rules.{rules}
 use Rattle.report.proofs.write_unreached.Goals as goal
 
--- the prover's list of needs
 pub write_byte-a-requires : goal.write_byte-a-requires
 write_byte-a-requires c = omega (arith, unreached_length c.args.block)
 

@@ -18,18 +18,18 @@ loop-i-init c = (omega arith, omega arith, refl)
 
 pub returns-then-not-is_hex : goal.returns-then-not-is_hex
 returns-then-not-is_hex c =
-    let bytes = (c.args.bytes.now) in
+    let bytes = c.args.bytes.now in
     let other = left_not bytes c.loop-i.i (omega arith) (omega arith) (sym c.is_hex.ensures ∙ c.if-not-is_hex.true) in
     let e : left 2 bytes ≡ false = sym c.loop-i.invariant.2 ∙ sym other in
-    sym ((by_rest ((c.args.bytes.now)) c.if-bytes-ne75.false c.if-bytes-ne9.false) ∙ ap (λ (t : Bool). t && eqb (get_or bytes 10 0) line_feed) e)
+    sym ((by_rest c.args.bytes.now c.if-bytes-ne75.false c.if-bytes-ne9.false) ∙ ap (λ (t : Bool). t && eqb (get_or bytes 10 0) line_feed) e)
 
 pub loop-i-preserved : goal.loop-i-preserved
 loop-i-preserved c =
-    let more = left_more ((c.args.bytes.now)) c.loop-i.i (omega arith) (omega arith) (sym c.is_hex.ensures ∙ c.if-not-is_hex.false) in
+    let more = left_more c.args.bytes.now c.loop-i.i (omega arith) (omega arith) (sym c.is_hex.ensures ∙ c.if-not-is_hex.false) in
     (omega arith, omega arith, more ∙ c.loop-i.invariant.2)
 
 pub returns : goal.returns
 returns c =
-    let bytes = (c.args.bytes.now) in
+    let bytes = c.args.bytes.now in
     let e : left 2 bytes ≡ true = sym c.loop-i.invariant.2 ∙ sym (left_none bytes c.loop-i.i (omega arith)) in
-    sym ((by_rest ((c.args.bytes.now)) c.if-bytes-ne75.false c.if-bytes-ne9.false) ∙ ap (λ (t : Bool). t && eqb (get_or bytes 10 0) line_feed) e)
+    sym ((by_rest c.args.bytes.now c.if-bytes-ne75.false c.if-bytes-ne9.false) ∙ ap (λ (t : Bool). t && eqb (get_or bytes 10 0) line_feed) e)

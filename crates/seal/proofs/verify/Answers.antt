@@ -18,7 +18,7 @@ slice_bounds-closed-end c = simp length-take (omega arith)
 
 pub returns-then-not-closed : goal.returns-then-not-closed
 returns-then-not-closed c =
-    unclosed _ c.if-text-lt-SEAL_SIZE.false ((sym c.seal_shaped.ensures ∙ c.if-not-seal_shaped.false)) (sym c.closed.ensures ∙ c.if-not-closed.true)
+    unclosed _ c.if-text-lt-SEAL_SIZE.false (sym c.seal_shaped.ensures ∙ c.if-not-seal_shaped.false) (sym c.closed.ensures ∙ c.if-not-closed.true)
 
 pub slice_bounds-crc-end : goal.slice_bounds-crc-end
 slice_bounds-crc-end c = simp length-take (omega arith)
@@ -26,9 +26,9 @@ slice_bounds-crc-end c = simp length-take (omega arith)
 pub returns-then-same_text : goal.returns-then-same_text
 returns-then-same_text c =
     let line = c.seal_line-line.ensures ∙ ap seal_line c.crc-word.ensures in
-    told _ c.if-text-lt-SEAL_SIZE.false ((sym c.seal_shaped.ensures ∙ c.if-not-seal_shaped.false)) ((sym c.closed.ensures ∙ c.if-not-closed.false)) _ line true (sym c.same_text.ensures ∙ c.if-same_text.true)
+    told _ c.if-text-lt-SEAL_SIZE.false (sym c.seal_shaped.ensures ∙ c.if-not-seal_shaped.false) (sym c.closed.ensures ∙ c.if-not-closed.false) _ line true (sym c.same_text.ensures ∙ c.if-same_text.true)
 
 pub returns-else-same_text : goal.returns-else-same_text
 returns-else-same_text c =
     let line = c.seal_line-line.ensures ∙ ap seal_line c.crc-word.ensures in
-    told _ c.if-text-lt-SEAL_SIZE.false ((sym c.seal_shaped.ensures ∙ c.if-not-seal_shaped.false)) ((sym c.closed.ensures ∙ c.if-not-closed.false)) _ line false (sym c.same_text.ensures ∙ c.if-same_text.false)
+    told _ c.if-text-lt-SEAL_SIZE.false (sym c.seal_shaped.ensures ∙ c.if-not-seal_shaped.false) (sym c.closed.ensures ∙ c.if-not-closed.false) _ line false (sym c.same_text.ensures ∙ c.if-same_text.false)

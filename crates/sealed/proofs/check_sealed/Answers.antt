@@ -35,4 +35,4 @@ returns-in-Faulty c =
 
 pub returns-in-Refused : goal.returns-in-Refused
 returns-in-Refused c =
-    refused_sealed c.check-said.ensures ((sym c.too_short.ensures ∙ c.if-too_short.false)) c.in-Refused.is
+    refused_sealed c.check-said.ensures (sym c.too_short.ensures ∙ c.if-too_short.false) c.in-Refused.is

@@ -13,12 +13,12 @@ returns-then-short c = text_short _ _ (sym c.too_short-short.ensures ∙ c.if-sh
 
 pub returns-in-Accepted : goal.returns-in-Accepted
 returns-in-Accepted c =
-    text_accepted c.check_sealed-said.ensures ((sym c.too_short-short.ensures ∙ c.if-short.false)) _ c.in-Accepted.is
+    text_accepted c.check_sealed-said.ensures (sym c.too_short-short.ensures ∙ c.if-short.false) _ c.in-Accepted.is
 
 pub returns-in-Faulty : goal.returns-in-Faulty
 returns-in-Faulty c =
-    text_faulty c.check_sealed-said.ensures ((sym c.too_short-short.ensures ∙ c.if-short.false)) _ c.in-Faulty.is
+    text_faulty c.check_sealed-said.ensures (sym c.too_short-short.ensures ∙ c.if-short.false) _ c.in-Faulty.is
 
 pub returns-in-Refused : goal.returns-in-Refused
 returns-in-Refused c =
-    text_refused c.check_sealed-said.ensures ((sym c.too_short-short.ensures ∙ c.if-short.false)) _ c.in-Refused.is c.answer_text.ensures
+    text_refused c.check_sealed-said.ensures (sym c.too_short-short.ensures ∙ c.if-short.false) _ c.in-Refused.is c.answer_text.ensures

@@ -28,18 +28,18 @@ clear_words-requires c = tt
 
 pub loop-at-init : goal.loop-at-init
 loop-at-init c =
-    ahead_at_first _ _ _ ((sym c.no_text.ensures ∙ c.if-no_text.false)) (cleared_blank c.args.words.now _ c.clear_words.ensures
+    ahead_at_first _ _ _ (sym c.no_text.ensures ∙ c.if-no_text.false) (cleared_blank c.args.words.now _ c.clear_words.ensures
     (omega (arith, c.requires))) refl
 
 pub read_line-lined-requires : goal.read_line-lined-requires
 read_line-lined-requires c =
-    ((text_of _ ((sym c.no_text.ensures ∙ c.if-no_text.false))), c.loop-at-test.true, c.loop-at.invariant.progress)
+    ((text_of _ (sym c.no_text.ensures ∙ c.if-no_text.false)), c.loop-at-test.true, c.loop-at.invariant.progress)
 
 -- a bad line
 pub refusal_of-requires : goal.refusal_of-requires
 refusal_of-requires c =
     let h = c.loop-at-test.true in
-    ((text_of _ ((sym c.no_text.ensures ∙ c.if-no_text.false))), h, size_of _ (bad_progress c.loop-at.invariant h c.in-Bad.breach (rw c.in-Bad.is at c.read_line-lined.ensures)))
+    ((text_of _ (sym c.no_text.ensures ∙ c.if-no_text.false)), h, size_of _ (bad_progress c.loop-at.invariant h c.in-Bad.breach (rw c.in-Bad.is at c.read_line-lined.ensures)))
 
 pub shape_of-words-in-Bad : goal.shape_of-words-in-Bad
 shape_of-words-in-Bad c =
@@ -48,13 +48,13 @@ shape_of-words-in-Bad c =
 
 pub returns-in-Bad : goal.returns-in-Bad
 returns-in-Bad c =
-    load_from _ ((cleared_length c.args.words.now _ c.clear_words.ensures
-    (omega (arith, c.requires))))
+    load_from _ (cleared_length c.args.words.now _ c.clear_words.ensures
+    (omega (arith, c.requires)))
     (line_bad c.loop-at.invariant c.loop-at-test.true c.in-Bad.breach (rw c.in-Bad.is at c.read_line-lined.ensures) c.refusal_of.ensures)
 
 pub overflow_add-line : goal.overflow_add-line
 overflow_add-line c =
-    let t = (text_of _ ((sym c.no_text.ensures ∙ c.if-no_text.false))) in
+    let t = (text_of _ (sym c.no_text.ensures ∙ c.if-no_text.false)) in
     omega (arith, c.loop-at.invariant.few, c.loop-at-test.true)
 
 pub loop-at-smaller : goal.loop-at-smaller
@@ -78,8 +78,8 @@ shape_of-words-then-reached-blocks c = (c.loop-at.invariant.same_length ∙ (cle
 
 pub returns-then-reached-blocks : goal.returns-then-reached-blocks
 returns-then-reached-blocks c =
-    load_from _ ((cleared_length c.args.words.now _ c.clear_words.ensures
-    (omega (arith, c.requires)))) (too_few c.loop-at.invariant c.loop-at-test.false c.progress-reached.ensures c.blocks-2.ensures c.if-reached-blocks.true)
+    load_from _ (cleared_length c.args.words.now _ c.clear_words.ensures
+    (omega (arith, c.requires))) (too_few c.loop-at.invariant c.loop-at-test.false c.progress-reached.ensures c.blocks-2.ensures c.if-reached-blocks.true)
 
 pub shape_of-words : goal.shape_of-words
 shape_of-words c = (c.loop-at.invariant.same_length ∙ (cleared_length c.args.words.now _ c.clear_words.ensures
@@ -87,5 +87,5 @@ shape_of-words c = (c.loop-at.invariant.same_length ∙ (cleared_length c.args.w
 
 pub returns : goal.returns
 returns c =
-    load_from _ ((cleared_length c.args.words.now _ c.clear_words.ensures
-    (omega (arith, c.requires)))) (all_read c.loop-at.invariant c.loop-at-test.false c.progress-reached.ensures c.blocks-2.ensures c.if-reached-blocks.false)
+    load_from _ (cleared_length c.args.words.now _ c.clear_words.ensures
+    (omega (arith, c.requires))) (all_read c.loop-at.invariant c.loop-at-test.false c.progress-reached.ensures c.blocks-2.ensures c.if-reached-blocks.false)

@@ -32,12 +32,12 @@ block_line-line-requires c = c.requires.0
 
 pub add_block-requires : goal.add_block-requires
 add_block-requires c =
-    let room = room_of _ c.requires.1 c.progress-reached.ensures c.blocks-2.ensures ((block_clear c.block_line-line.ensures.clear c.in-Good.is)).0.placed in
-    (begun_by_room _ c.requires.1 room, room, (subst (λ (k : Counts). BlockWithin k.blocks c.in-Good.count c.block_line-line.result.succs) c.counts_of-counts.ensures ((block_clear c.block_line-line.ensures.clear c.in-Good.is)).1))
+    let room = room_of _ c.requires.1 c.progress-reached.ensures c.blocks-2.ensures (block_clear c.block_line-line.ensures.clear c.in-Good.is).0.placed in
+    (begun_by_room _ c.requires.1 room, room, (subst (λ (k : Counts). BlockWithin k.blocks c.in-Good.count c.block_line-line.result.succs) c.counts_of-counts.ensures (block_clear c.block_line-line.ensures.clear c.in-Good.is).1))
 
 pub overflow_add-result : goal.overflow_add-result
 overflow_add-result c =
-    omega (arith, ((block_clear c.block_line-line.ensures.clear c.in-Good.is)).0.inside, c.requires.0.size)
+    omega (arith, (block_clear c.block_line-line.ensures.clear c.in-Good.is).0.inside, c.requires.0.size)
 
 pub shape_of-words-in-Bad : goal.shape_of-words-in-Bad
 shape_of-words-in-Bad c = refl
@@ -45,8 +45,8 @@ shape_of-words-in-Bad c = refl
 pub returns-in-Bad : goal.returns-in-Bad
 unfolding block_told
 returns-in-Bad c =
-    line_refused ((let p = c.requires.1 in
-    c.block_line-line.ensures.by_index (so_far _) (block_placed _ p c.progress-reached.ensures c.blocks-2.ensures) (so_far_counted _ p _ c.counts_of-counts.ensures))) refl (ap (block_told c.block_line-line.result.succs) c.in-Bad.is)
+    line_refused (let p = c.requires.1 in
+    c.block_line-line.ensures.by_index (so_far _) (block_placed _ p c.progress-reached.ensures c.blocks-2.ensures) (so_far_counted _ p _ c.counts_of-counts.ensures)) refl (ap (block_told c.block_line-line.result.succs) c.in-Bad.is)
 
 pub shape_of-words-in-Good : goal.shape_of-words-in-Good
 shape_of-words-in-Good c = c.add_block.ensures.same_length
@@ -54,5 +54,5 @@ shape_of-words-in-Good c = c.add_block.ensures.same_length
 pub returns-in-Good : goal.returns-in-Good
 unfolding block_told
 returns-in-Good c =
-    line_accepted ((let p = c.requires.1 in
-    c.block_line-line.ensures.by_index (so_far _) (block_placed _ p c.progress-reached.ensures c.blocks-2.ensures) (so_far_counted _ p _ c.counts_of-counts.ensures))) c.requires.1 (ap (block_told c.block_line-line.result.succs) c.in-Good.is) ((block_clear c.block_line-line.ensures.clear c.in-Good.is)).0.inside c.add_block.ensures
+    line_accepted (let p = c.requires.1 in
+    c.block_line-line.ensures.by_index (so_far _) (block_placed _ p c.progress-reached.ensures c.blocks-2.ensures) (so_far_counted _ p _ c.counts_of-counts.ensures)) c.requires.1 (ap (block_told c.block_line-line.result.succs) c.in-Good.is) (block_clear c.block_line-line.ensures.clear c.in-Good.is).0.inside c.add_block.ensures

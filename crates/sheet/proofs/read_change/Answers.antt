@@ -34,12 +34,12 @@ change_line-line-requires c =
 
 pub add_step-requires : goal.add_step-requires
 add_step-requires c =
-    let r = (step_ready c.requires.1 c.step_place-place.ensures ((change_clear c.change_line-line.ensures.clear c.in-Good.is)).0) in
-    (r.some_sheet, r.some_block, r.some_room, change_fits _ c.requires.1 _ _ _ _ ((rw c.counts_of-counts.ensures at ((change_clear c.change_line-line.ensures.clear c.in-Good.is)).1.slot_below)))
+    let r = (step_ready c.requires.1 c.step_place-place.ensures (change_clear c.change_line-line.ensures.clear c.in-Good.is).0) in
+    (r.some_sheet, r.some_block, r.some_room, change_fits _ c.requires.1 _ _ _ _ (rw c.counts_of-counts.ensures at (change_clear c.change_line-line.ensures.clear c.in-Good.is).1.slot_below))
 
 pub overflow_add-result : goal.overflow_add-result
 overflow_add-result c =
-    omega (arith, ((change_clear c.change_line-line.ensures.clear c.in-Good.is)).0.inside, c.requires.0.size)
+    omega (arith, (change_clear c.change_line-line.ensures.clear c.in-Good.is).0.inside, c.requires.0.size)
 
 pub shape_of-words-in-Bad : goal.shape_of-words-in-Bad
 shape_of-words-in-Bad c = refl
@@ -47,8 +47,8 @@ shape_of-words-in-Bad c = refl
 pub returns-in-Bad : goal.returns-in-Bad
 unfolding change_line region
 returns-in-Bad c =
-    line_refused ((let p = c.requires.1 in
-    c.change_line-line.ensures.result_value (so_far _) (step_placed _ p _ c.step_place-place.ensures) (so_far_counted _ p _ c.counts_of-counts.ensures) (so_far_typed _ p))) refl (ap change_line c.in-Bad.is)
+    line_refused (let p = c.requires.1 in
+    c.change_line-line.ensures.result_value (so_far _) (step_placed _ p _ c.step_place-place.ensures) (so_far_counted _ p _ c.counts_of-counts.ensures) (so_far_typed _ p)) refl (ap change_line c.in-Bad.is)
 
 pub shape_of-words-in-Good : goal.shape_of-words-in-Good
 shape_of-words-in-Good c = c.add_step.ensures.same_length
@@ -56,5 +56,5 @@ shape_of-words-in-Good c = c.add_step.ensures.same_length
 pub returns-in-Good : goal.returns-in-Good
 unfolding change_line step_of region
 returns-in-Good c =
-    line_accepted ((let p = c.requires.1 in
-    c.change_line-line.ensures.result_value (so_far _) (step_placed _ p _ c.step_place-place.ensures) (so_far_counted _ p _ c.counts_of-counts.ensures) (so_far_typed _ p))) c.requires.1 (ap change_line c.in-Good.is) ((change_clear c.change_line-line.ensures.clear c.in-Good.is)).0.inside c.add_step.ensures
+    line_accepted (let p = c.requires.1 in
+    c.change_line-line.ensures.result_value (so_far _) (step_placed _ p _ c.step_place-place.ensures) (so_far_counted _ p _ c.counts_of-counts.ensures) (so_far_typed _ p)) c.requires.1 (ap change_line c.in-Good.is) (change_clear c.change_line-line.ensures.clear c.in-Good.is).0.inside c.add_step.ensures

@@ -45,7 +45,7 @@ add_operation-requires c =
 pub overflow_add-result : goal.overflow_add-result
 unfolding region
 overflow_add-result c =
-    omega (arith, ((operation_clear c.operation_line-line.ensures.clear c.in-Good.is)).0.inside, c.requires.0.size)
+    omega (arith, (operation_clear c.operation_line-line.ensures.clear c.in-Good.is).0.inside, c.requires.0.size)
 
 pub shape_of-words-in-Bad : goal.shape_of-words-in-Bad
 shape_of-words-in-Bad c = refl
@@ -53,8 +53,8 @@ shape_of-words-in-Bad c = refl
 pub returns-in-Bad : goal.returns-in-Bad
 unfolding operation_told
 returns-in-Bad c =
-    line_refused ((let p = c.requires.1 in
-    c.operation_line-line.ensures.result_value (so_far _) (step_placed _ p _ c.step_place-place.ensures) (so_far_counted _ p _ c.counts_of-counts.ensures))) refl (ap (operation_told c.operation_line-line.result.operands) c.in-Bad.is)
+    line_refused (let p = c.requires.1 in
+    c.operation_line-line.ensures.result_value (so_far _) (step_placed _ p _ c.step_place-place.ensures) (so_far_counted _ p _ c.counts_of-counts.ensures)) refl (ap (operation_told c.operation_line-line.result.operands) c.in-Bad.is)
 
 pub shape_of-words-in-Good : goal.shape_of-words-in-Good
 shape_of-words-in-Good c = c.add_operation.ensures.same_length
@@ -62,5 +62,5 @@ shape_of-words-in-Good c = c.add_operation.ensures.same_length
 pub returns-in-Good : goal.returns-in-Good
 unfolding operation_told region
 returns-in-Good c =
-    line_accepted ((let p = c.requires.1 in
-    c.operation_line-line.ensures.result_value (so_far _) (step_placed _ p _ c.step_place-place.ensures) (so_far_counted _ p _ c.counts_of-counts.ensures))) c.requires.1 (ap (operation_told c.operation_line-line.result.operands) c.in-Good.is) ((operation_clear c.operation_line-line.ensures.clear c.in-Good.is)).0.inside c.add_operation.ensures
+    line_accepted (let p = c.requires.1 in
+    c.operation_line-line.ensures.result_value (so_far _) (step_placed _ p _ c.step_place-place.ensures) (so_far_counted _ p _ c.counts_of-counts.ensures)) c.requires.1 (ap (operation_told c.operation_line-line.result.operands) c.in-Good.is) (operation_clear c.operation_line-line.ensures.clear c.in-Good.is).0.inside c.add_operation.ensures

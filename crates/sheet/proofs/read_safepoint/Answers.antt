@@ -27,12 +27,12 @@ safepoint_line-line-requires c = (c.requires.0, within_by _ _ c.counts_of-counts
 
 pub add_step-requires : goal.add_step-requires
 add_step-requires c =
-    let r = (step_ready c.requires.1 c.step_place-place.ensures ((safepoint_clear c.safepoint_line-line.ensures.clear c.in-Good.is)).0) in
-    (r.some_sheet, r.some_block, r.some_room, safepoint_fits _ c.requires.1 _ _ ((rw c.counts_of-counts.ensures at ((safepoint_clear c.safepoint_line-line.ensures.clear c.in-Good.is)).1.mask_below)))
+    let r = (step_ready c.requires.1 c.step_place-place.ensures (safepoint_clear c.safepoint_line-line.ensures.clear c.in-Good.is).0) in
+    (r.some_sheet, r.some_block, r.some_room, safepoint_fits _ c.requires.1 _ _ (rw c.counts_of-counts.ensures at (safepoint_clear c.safepoint_line-line.ensures.clear c.in-Good.is).1.mask_below))
 
 pub overflow_add-result : goal.overflow_add-result
 overflow_add-result c =
-    omega (arith, ((safepoint_clear c.safepoint_line-line.ensures.clear c.in-Good.is)).0.inside, c.requires.0.size)
+    omega (arith, (safepoint_clear c.safepoint_line-line.ensures.clear c.in-Good.is).0.inside, c.requires.0.size)
 
 pub shape_of-words-in-Bad : goal.shape_of-words-in-Bad
 shape_of-words-in-Bad c = refl
@@ -40,8 +40,8 @@ shape_of-words-in-Bad c = refl
 pub returns-in-Bad : goal.returns-in-Bad
 unfolding safepoint_line
 returns-in-Bad c =
-    line_refused ((let p = c.requires.1 in
-    c.safepoint_line-line.ensures.result_value (so_far _) (step_placed _ p _ c.step_place-place.ensures) (so_far_counted _ p _ c.counts_of-counts.ensures))) refl (ap safepoint_line c.in-Bad.is)
+    line_refused (let p = c.requires.1 in
+    c.safepoint_line-line.ensures.result_value (so_far _) (step_placed _ p _ c.step_place-place.ensures) (so_far_counted _ p _ c.counts_of-counts.ensures)) refl (ap safepoint_line c.in-Bad.is)
 
 pub shape_of-words-in-Good : goal.shape_of-words-in-Good
 shape_of-words-in-Good c = c.add_step.ensures.same_length
@@ -49,5 +49,5 @@ shape_of-words-in-Good c = c.add_step.ensures.same_length
 pub returns-in-Good : goal.returns-in-Good
 unfolding safepoint_line step_of
 returns-in-Good c =
-    line_accepted ((let p = c.requires.1 in
-    c.safepoint_line-line.ensures.result_value (so_far _) (step_placed _ p _ c.step_place-place.ensures) (so_far_counted _ p _ c.counts_of-counts.ensures))) c.requires.1 (ap safepoint_line c.in-Good.is) ((safepoint_clear c.safepoint_line-line.ensures.clear c.in-Good.is)).0.inside c.add_step.ensures
+    line_accepted (let p = c.requires.1 in
+    c.safepoint_line-line.ensures.result_value (so_far _) (step_placed _ p _ c.step_place-place.ensures) (so_far_counted _ p _ c.counts_of-counts.ensures)) c.requires.1 (ap safepoint_line c.in-Good.is) (safepoint_clear c.safepoint_line-line.ensures.clear c.in-Good.is).0.inside c.add_step.ensures

@@ -5,7 +5,6 @@ use Rattle.states.proofs.Laws.{wrote_marked, wrote_unmarked}
 use borrow.Author.Rules.{rules}
 use Rattle.states.proofs.write_named.Goals as goal
 
--- the prover's list of needs
 pub write_packed_name-end-requires : goal.write_packed_name-end-requires
 write_packed_name-end-requires c = omega (arith, name_short c.args.cell)
 

@@ -8,7 +8,6 @@ use Rattle.states.proofs.Laws.{row_none, row_then}
 use borrow.Author.Rules.{rules}
 use Rattle.states.proofs.write_row.Goals as goal
 
--- the prover's list of needs
 pub loop-i-init : goal.loop-i-init
 loop-i-init c = (omega arith, omega arith, refl, row_none _ _ _ _)
 

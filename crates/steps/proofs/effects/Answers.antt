@@ -28,7 +28,7 @@ loop-left-preserved c =
       omega arith,
       λ counts r ref h.
           let honest = h _ c.loop-left.invariant.1 (omega arith) in
-          rw (c.update.ensures counts r.rows_fit ((rw c.action_at-action.ensures (r.in_range _ c.loop-left.invariant.1 (omega arith)))) ref (rw c.action_at-action.ensures honest), c.action_at-action.ensures)
+          rw (c.update.ensures counts r.rows_fit (rw c.action_at-action.ensures (r.in_range _ c.loop-left.invariant.1 (omega arith))) ref (rw c.action_at-action.ensures honest), c.action_at-action.ensures)
           (next_step _ ref _ _ _ _ c.loop-left-test.true)
           ∙ c.loop-left.invariant.2 counts r ref h,
     )

@@ -23,8 +23,8 @@ store-requires c =
 
 pub loop-b-preserved : goal.loop-b-preserved
 loop-b-preserved c =
-    filled_more c.requires c.loop-b.invariant _ (omega (arith, c.loop-b-test.true, (c.blocks-blocks.ensures))) c.row_counts-counts.ensures c.store.ensures c.unreached_state-s.ensures c.first_mark.ensures
+    filled_more c.requires c.loop-b.invariant _ (omega (arith, c.loop-b-test.true, c.blocks-blocks.ensures)) c.row_counts-counts.ensures c.store.ensures c.unreached_state-s.ensures c.first_mark.ensures
 
 pub returns : goal.returns
 returns c =
-    (c.loop-b.invariant.kept, filled_all c.requires c.loop-b.invariant (omega (arith, c.loop-b-test.false, (c.blocks-blocks.ensures))))
+    (c.loop-b.invariant.kept, filled_all c.requires c.loop-b.invariant (omega (arith, c.loop-b-test.false, c.blocks-blocks.ensures)))
