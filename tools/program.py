@@ -2,10 +2,11 @@
 
 A program counts as built where its stamp holds: the stamp is written after a build that succeeded, over the contents of crates/ and
 crates.txt and the toolchain's version, and over the program itself."""
-import collections, contextlib, fcntl, hashlib, os, re, shutil, signal, stat, subprocess, sys, tempfile, threading
+import collections, contextlib, fcntl, hashlib, os, re, shutil, signal, subprocess, sys, tempfile, threading
 
 ROOT = os.path.dirname(os.path.dirname(os.path.realpath(__file__)))
 TARGET = os.path.join(ROOT, 'target')
+CRATES = os.path.join(ROOT, 'crates')
 PROVED = os.path.join(TARGET, 'proved')  # a copy of each program, which has no permission to be executed, and its stamp
 NOTHING = 3  # the exit code of a call by which nothing was checked
 command = 'program'
@@ -119,24 +120,24 @@ def recorded_version():
 
 
 def command_line(name, *words):
-    """The words that run a built program: elsewhere than on x86-64 under the toolchain's emulator."""
-    kit = os.environ.get('RATTLE_HOME') or os.path.dirname(os.path.dirname(ask('doc')))
-    tools = os.path.join(kit, 'on', os.uname().machine, 'toolchain')
-    emulator, libraries = os.path.join(tools, 'bin/qemu-x86_64'), os.path.join(tools, 'lib')
-    loader = os.path.join(libraries, 'ld-linux-x86-64.so.2')
-    return [emulator] * os.access(emulator, os.X_OK) + [loader, '--library-path', libraries, os.path.join(PROVED, name), *words]
+    """The words that run a built program, with the toolchain's own loader and C library."""
+    if os.uname().machine != 'x86_64':
+        raise Trouble(f'the toolchain builds programs for x86-64, and this is {os.uname().machine}')
+    libraries = os.path.join(os.path.dirname(ask('doc')), 'toolchain/lib')
+    return [os.path.join(libraries, 'ld-linux-x86-64.so.2'), '--library-path', libraries, os.path.join(PROVED, name), *words]
 
 
 # ---- the stamp
 
 def contents():
-    """A sum over all that is proved: crates.txt and the files of crates/ but the must-fail edits, by name and content."""
+    """A sum over all that is proved: crates.txt, HANDLES and the files of crates/ but the must-fail edits and what was built, by name and
+    content."""
     def unreadable(why):
         raise why
-    paths = [os.path.join(ROOT, 'crates.txt')]
+    paths = [path for path in (os.path.join(ROOT, name) for name in ('crates.txt', 'HANDLES')) if os.path.lexists(path)]
     try:
-        for folder, folders, files in os.walk(os.path.join(ROOT, 'crates'), onerror=unreadable):
-            folders[:] = [each for each in folders if each != 'must-fail']
+        for folder, folders, files in os.walk(CRATES, onerror=unreadable):
+            folders[:] = [each for each in folders if each not in ('must-fail', 'out')]
             paths += [os.path.join(folder, file) for file in files]
         whole = hashlib.sha256()
         for path in sorted(paths):
@@ -165,13 +166,18 @@ def holds(name, key):
         return False
 
 
+def linked(name):
+    """Where rt links a program."""
+    return os.path.join(CRATES, name, 'out', name)
+
+
 def keep(name, key):
     """Copies the program that was built, without permission to execute it, then writes its stamp. Each comes into place whole."""
     place = os.path.join(PROVED, name)
     for end in ('.new', '.stamp.new'):
         with contextlib.suppress(FileNotFoundError):
             os.unlink(place + end)
-    shutil.copyfile(os.path.join(TARGET, 'bin', name), place + '.new')
+    shutil.copyfile(linked(name), place + '.new')
     os.chmod(place + '.new', 0o444)
     os.replace(place + '.new', place)
     with open(place + '.stamp.new', 'w', encoding='utf-8') as file:
@@ -187,32 +193,45 @@ def ready(*names):
     if toolchain != recorded:
         say(f"the toolchain is '{toolchain}', and toolchain.txt names '{recorded}': what runs is proved with the first")
     for name in names:
-        if not re.fullmatch('[a-z][a-z0-9_]*', name) or not os.path.isfile(os.path.join(ROOT, 'crates', name, 'src/main.rt')):
+        if not re.fullmatch('[a-z][a-z0-9_]*', name) or not os.path.isfile(os.path.join(CRATES, name, 'src/main.rt')):
             raise Trouble(f'{shown(name)}: there is no such program under crates/')
     key = key_of(toolchain)
     if all(holds(name, key) for name in names):
-        return shut()
+        return shut(names)
     with locked() as lock:
         key = key_of(toolchain)
         if not all(holds(name, key) for name in names):
             build(names, lock)
             if key_of(toolchain) != key:
                 raise Trouble('a file of crates/ changed while it was proved: call again')
-            try:
-                for name in names:
-                    keep(name, key)
-            except OSError as why:
-                raise because(why.filename or PROVED, why) from None
-    shut()
+            keep_all(names, key)
+    shut(names)
 
 
-def shut():
-    """Takes the permission to be executed from the programs that rt has linked: they are not to be called."""
-    with contextlib.suppress(OSError):
-        for program in os.scandir(os.path.join(TARGET, 'bin')):
-            mode = program.stat(follow_symlinks=False).st_mode
-            if stat.S_ISREG(mode) and mode & 0o111:
-                os.chmod(program.path, mode & 0o666)
+def keep_all(names, key):
+    try:
+        for name in names:
+            keep(name, key)
+    except OSError as why:
+        raise because(why.filename or PROVED, why) from None
+
+
+def take(key):
+    """Keeps every program as a run of `rt ci` that has just passed over these contents left it."""
+    if key_of(version()) != key:
+        raise Trouble('a file of crates/ changed while it was proved: call again')
+    names = sorted(each for each in os.listdir(CRATES) if os.path.isfile(os.path.join(CRATES, each, 'src/main.rt')))
+    with locked():
+        keep_all(names, key)
+    shut(names)
+
+
+def shut(names):
+    """Removes the programs that rt has linked, which are not to be called: what runs is the copy that was kept."""
+    for name in names:
+        for path in (linked(name), linked(name) + '.by-rattle'):
+            with contextlib.suppress(OSError):
+                os.unlink(path)
 
 
 @contextlib.contextmanager
@@ -253,7 +272,7 @@ def needed_by(names):
     """The crates that the programs stand on, themselves included."""
     with open(os.path.join(ROOT, 'crates.txt'), encoding='utf-8') as file:
         lines = [line.split('#')[0].partition(':') for line in file]
-    under = {name.strip(): deps.split() for name, _, deps in lines}
+    under = {names.split()[0]: deps.split() for names, _, deps in lines if names.split()}
     found, todo = set(), list(names)
     while todo:
         name = todo.pop()
@@ -264,48 +283,65 @@ def needed_by(names):
 
 
 def build(names, lock):
-    """Proves and builds the programs. Where one that was proved before has lost its file, it is proved again."""
-    check(names, lock)
-    lost = [name for name in names if not os.path.isfile(os.path.join(TARGET, 'bin', name))]
-    if lost:
-        for name in lost:
-            with contextlib.suppress(FileNotFoundError):
-                os.unlink(os.path.join(TARGET, 'stamp', name))
-        check(lost, lock)
+    """Proves, builds and runs the programs."""
+    crates, done = needed_by(names), set()
+    say(f'{len(crates)} crates are proved and built first, as far as they are not yet: some minutes where none is')
+    for name in names:
+        check(name, crates, done, lock)
 
 
 # what `rt` says of a crate where nothing is wrong
-NOISE = re.compile(r'library |logic |logic=proved|axioms |linked |note: |\S*: note: |(fn|enum|struct) .*: proved$|rt: \w+ (proved \(|ran )')
+NOISE = re.compile(r'library |statements |crate |logic |logic=proved|axioms |linked |checked |note: |\S*: note: |(fn|enum|struct|impl) .*: proved$|rt: ')
 
 
-def check(names, lock):
-    """Runs `rt check` on the programs and says which crate of how many is proved. Its temporary files and all that it started go
-    when it ends, also where it is stopped."""
-    crates, done, last = needed_by(names), 0, collections.deque(maxlen=20)
-    say(f'{len(crates)} crates are proved and built first, as far as they are not yet: some minutes where none is')
+def file_of(name, file):
+    """What a program is run on and must write: the bytes of a file beside its src/, none where there is none."""
+    try:
+        with open(os.path.join(CRATES, name, file), 'rb') as found:
+            return found.read()
+    except FileNotFoundError:
+        return b''
+    except OSError as why:
+        raise because(f'crates/{name}/{file}', why) from None
+
+
+def check(name, crates, done, lock):
+    """Runs `rt run` on a program, which proves and builds it and what it stands on, holds its run to what it must write, and says which
+    crate of how many is proved. Its temporary files and all that it started go when it ends, also where it is stopped."""
+    last, proving = collections.deque(maxlen=20), name
     place = next((each for each in ('/tmp', '/var/tmp') if os.access(each, os.W_OK | os.X_OK)), tempfile.gettempdir())
     room = tempfile.mkdtemp(prefix=command + '.', dir=place)
-    os.chmod(room, 0o711)  # rt runs a program as nobody, who must reach it
     environment = {name: value for name, value in os.environ.items() if name != 'CDPATH'}
     child = None
+    with contextlib.suppress(OSError):
+        os.unlink(linked(name) + '.stamp')  # one that was proved before is linked again
     try:
-        child = subprocess.Popen(['rt', 'check', *names], cwd=ROOT, stdin=subprocess.DEVNULL, stdout=subprocess.PIPE, stderr=subprocess.STDOUT,
-                                 text=True, errors='replace', env=dict(environment, TMPDIR=room), start_new_session=True, pass_fds=[lock])
-        for line in child.stdout:
-            if not NOISE.match(line):
-                last.append(line)
-            proved = re.match(r'rt: (\w+) proved \((unchanged)?', line)
-            done += bool(proved)
-            if proved and not proved[2]:
-                say(f'crate {done} of {len(crates)} is proved: {proved[1]}')
-        status = child.wait()
+        given, wrote = os.path.join(room, 'stdin'), os.path.join(room, 'stdout')
+        with open(given, 'wb') as file:
+            file.write(file_of(name, 'stdin'))
+        words = file_of(name, 'args').decode(errors='surrogateescape').splitlines()
+        with open(given, 'rb') as standard, open(wrote, 'wb') as output:
+            child = subprocess.Popen(['rt', 'run', '--', *words], cwd=os.path.join(CRATES, name), stdin=standard, stdout=output, stderr=subprocess.PIPE,
+                                     text=True, errors='replace', env=dict(environment, TMPDIR=room), start_new_session=True, pass_fds=[lock])
+            for line in child.stderr:
+                if not NOISE.match(line):
+                    last.append(line)
+                proving = (re.match(r'crate (\w+): ', line) or [line, proving])[1]
+                if line.startswith('logic=proved') and proving not in done:
+                    done.add(proving)
+                    say(f'crate {len(done)} of {len(crates)} is proved: {proving}')
+            status = child.wait()
+        with open(wrote, 'rb') as file:
+            as_wanted = file.read() == file_of(name, 'stdout') and status == int(file_of(name, 'status') or 0)
+        if status == 0 and not as_wanted:
+            last.append(f'{name}: its run wrote something else than its file stdout has\n')
     finally:
         end(child)
         shutil.rmtree(room, ignore_errors=True)
-    if status:
+    if not as_wanted:
         with contextlib.suppress(OSError):
             os.write(2, ''.join(last).encode(errors='replace'))
-        raise Trouble(f"{' and '.join(names)} could not be proved and built: what 'rt check' said last stands above, the rest is in target/log")
+        raise Trouble(f"{name} could not be proved and built: what 'rt run' said last stands above")
 
 
 def end(child):
