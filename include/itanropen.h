@@ -1,7 +1,7 @@
 /* Itanropen: a proved checker of register allocations, for C99, C++ and whatever calls C.
  *
- * Written by hand beside crates/checker/src/lib.rt, which declares the same function; `tools/try-header` compiles this file and runs
- * programs over it. Link with target/staticlib/libchecker.a, which `rt staticlib checker` proves and builds, for x86-64 Linux, from
+ * Written by hand beside crates/checker_c/src/lib.rt, which exports the same function; `tools/try-header` compiles this file and runs
+ * programs over it. Link with target/staticlib/libchecker.a, which `tools/native library checker` proves and builds, for x86-64 Linux, from
  * the same sources as this file. The library allocates nothing, keeps nothing between calls, and calls nothing but memcpy and memset.
  *
  * 1 sizes, 2 rules and answers, 3 the verdict, 4 the buffers, 5 the functions, 6 two reports compared, 7 sealed reports, 8 sheets written. What is said of a function under
@@ -120,7 +120,7 @@ static inline itanropen_verdict itanropen_check_in(itanropen_buffers *buffers, u
     return itanropen_check_arrays(rule, sheet, sheet_bytes, &buffers->report, &buffers->words, &buffers->queue);
 }
 
-/* 6. Two reports compared, by target/staticlib/libcompare.a (`rt staticlib compare`), beside crates/compare/src/lib.rt. */
+/* 6. Two reports compared, by target/staticlib/libcompare.a (`tools/native library compare`), beside crates/compare_c/src/lib.rt. */
 #define ITANROPEN_EQUAL 0
 #define ITANROPEN_PARTS 1
 #define ITANROPEN_MALFORMED 2
@@ -145,8 +145,8 @@ typedef char itanropen_judgement_has_24_bytes[sizeof(itanropen_judgement) == 24 
  */
 itanropen_judgement itanropen_compare(const uint8_t *first, size_t first_count, const uint8_t *second, size_t second_count);
 
-/* 7. Sealed reports, by target/staticlib/libsealed.a (`rt staticlib sealed`, beside crates/sealed/src/lib.rt), and the reader of seals, by
- * target/staticlib/libseal.a (`rt staticlib seal`, beside crates/seal/src/lib.rt). A seal is the report's last line: `K`, a tab, the CRC-32 of
+/* 7. Sealed reports, by target/staticlib/libsealed.a (`tools/native library sealed`, beside crates/sealed_c/src/lib.rt), and the reader of seals, by
+ * target/staticlib/libseal.a (`tools/native library seal`, beside crates/seal_c/src/lib.rt). A seal is the report's last line: `K`, a tab, the CRC-32 of
  * ITU-T V.42 over all bytes before that line in eight lowercase hex digits, LF.
  */
 #define ITANROPEN_SEAL_COUNT 11
@@ -184,7 +184,7 @@ itanropen_verdict itanropen_check_sealed(uint64_t rule,
  */
 uint8_t itanropen_verify(const uint8_t *text, size_t text_count);
 
-/* 8. Sheets written, by target/staticlib/libwriter.a (`rt staticlib writer`, beside crates/writer/src/lib.rt). A sheet is loaded into words, which
+/* 8. Sheets written, by target/staticlib/libwriter.a (`tools/native library writer`, beside crates/writer_c/src/lib.rt). A sheet is loaded into words, which
  * hold its form, and written from them again; a sheet has one spelling, so what is written is its own bytes. itanropen_write has
  * two buffers of together 132,608 bytes on the stack.
  */
