@@ -68,7 +68,7 @@ typedef struct itanropen_buffers {
  *
  * itanropen_check: the answer to a sheet under a rule.
  *
- * Promise (`Exported` of crates/checker/specs/Checked.antt; one outcome only, `export-one-outcome`), for every sheet and every content
+ * Promise (`Exported` of crates/checker/specs/Checked.antt; one outcome only, `export_one_outcome`), for every sheet and every content
  * of the buffers:
  * - refused with number 1, line 0 and field 0 exactly where a buffer is shorter than its size above; then nothing is changed;
  * - otherwise every element of words and queue is 0 afterwards, also past their sizes;
@@ -76,10 +76,10 @@ typedef struct itanropen_buffers {
  *   the report is as it was;
  * - accepted or faulty: the first `length` bytes of the report are its text, and later bytes are as they were. No zero byte ends it;
  * - accepted under the house rule exactly where the sheet is read and document 01's sentence on acceptance holds of it, as document 02,
- *   A5, amends it; then the original and the allocated program read equal values at every use on every walk (`export-exactly`,
- *   `export-accepted`);
+ *   A5, amends it; then the original and the allocated program read equal values at every use on every walk (`export_exactly`,
+ *   `export_accepted`);
  * - under the house rule a report has a line `N b` exactly where no allocation is missing and no walk comes to block b, in the place of
- *   that block's faults (`export-named`): an accepted report may be longer than its header;
+ *   that block's faults (`export_named`): an accepted report may be longer than its header;
  * - the call returns, and reads and writes no element outside what it is lent.
  *
  * The caller:
@@ -136,7 +136,7 @@ typedef char itanropen_judgement_has_24_bytes[sizeof(itanropen_judgement) == 24 
 
 /* itanropen_compare: are two reports the same, and where do they part?
  *
- * Promise (`judgement-of (compared first second)`, crates/paper/specs/Comparison.antt), for any bytes of any length: the first report is
+ * Promise (`judgement_of (compared first second)`, crates/paper/specs/Comparison.antt), for any bytes of any length: the first report is
  * judged first; equal exactly where both are well formed and their bytes are the same; nothing is changed, and the call returns. What
  * is handed back of the longer one, of two equally long the first, is its bytes from `place` on.
  *
@@ -158,11 +158,11 @@ itanropen_judgement itanropen_compare(const uint8_t *first, size_t first_count, 
 
 /* itanropen_check_sealed: as itanropen_check, with a sealed report.
  *
- * Promise (`ExportedSealed` of crates/sealed/specs/Sealed.antt, over `sealed-outcome` of crates/paper/specs/Seal.antt; one outcome only,
- * `export-one-outcome`), for every sheet and every content of the buffers: that of itanropen_check (section 5), but that
+ * Promise (`ExportedSealed` of crates/sealed/specs/Sealed.antt, over `sealed_outcome` of crates/paper/specs/Seal.antt; one outcome only,
+ * `export_one_outcome`), for every sheet and every content of the buffers: that of itanropen_check (section 5), but that
  * - a report of fewer than ITANROPEN_SEALED_COUNT bytes is refusal 1;
  * - accepted or faulty: the first `length` bytes of the report are its text and behind it the line that seals it; `length` counts both. What
- *   stands there is good (`accepted-good`, `faulty-good`). A refusal is not sealed.
+ *   stands there is good (`accepted_good`, `faulty_good`). A refusal is not sealed.
  *
  * The caller: as for itanropen_check.
  */
@@ -174,10 +174,10 @@ itanropen_verdict itanropen_check_sealed(uint64_t rule,
 
 /* itanropen_verify: what the seal at the end of a text comes to.
  *
- * Promise (`code-of (seal-of text)`, crates/paper/specs/Seal.antt), for any bytes of any length: ITANROPEN_GOOD exactly where the text is a text
- * of closed lines, or of none, and behind it its seal's line (`good-exactly`); ITANROPEN_WRONG where the last 11 bytes are a line of that
+ * Promise (`code_of (seal_of text)`, crates/paper/specs/Seal.antt), for any bytes of any length: ITANROPEN_GOOD exactly where the text is a text
+ * of closed lines, or of none, and behind it its seal's line (`good_exactly`); ITANROPEN_WRONG where the last 11 bytes are a line of that
  * shape with another word; else ITANROPEN_NO_SEAL. A text that differs from a sealed one before the line, inside a run of at most 32 bits, is
- * never good under the same line (`burst-not-good`). Nothing is changed, and the call returns.
+ * never good under the same line (`burst_not_good`). Nothing is changed, and the call returns.
  *
  * The caller: the pointer points at as many bytes as the count says, live and readable during the call, written by no one meanwhile; it is
  * not null.
@@ -213,7 +213,7 @@ typedef char itanropen_write_verdict_has_16_bytes[sizeof(itanropen_write_verdict
  *
  * Promise (`LoadExported` of crates/writer/specs/Load.antt), for every sheet and every content of the words: fewer than ITANROPEN_WORDS_COUNT
  * words are refusal 1, and nothing changes; a sheet that is refused leaves every word zero; one that is read leaves its form in the words
- * (`form-of`), from which itanropen_write writes the sheet's own bytes. Which words the form takes is not promised.
+ * (`form_of`), from which itanropen_write writes the sheet's own bytes. Which words the form takes is not promised.
  *
  * The caller: each pointer points at as many live elements as the count behind it says; the words overlap nothing; no pointer is null.
  */
@@ -221,10 +221,10 @@ itanropen_load_verdict itanropen_load(const uint8_t *sheet, size_t sheet_count, 
 
 /* itanropen_write: the form that words hold, as its sheet.
  *
- * Promise (`WriteExported` of crates/writer/specs/Form.antt, over `sheet-outcome` of crates/paper/specs/Writing.antt; one outcome only), for words
+ * Promise (`WriteExported` of crates/writer/specs/Form.antt, over `sheet_outcome` of crates/paper/specs/Writing.antt; one outcome only), for words
  * of any length and content: ITANROPEN_NO_SHEET where no sheet gives the form, then ITANROPEN_NO_ROOM where the buffer is shorter than the
  * text, and either leaves the buffer as it was; else the text stands at the buffer's start, later bytes keep their values, and reading the
- * text gives the form again (`written-read`). The words are not changed.
+ * text gives the form again (`written_read`). The words are not changed.
  *
  * The caller: each pointer points at as many live elements as the count behind it says; the buffer overlaps nothing; no pointer is null.
  */
