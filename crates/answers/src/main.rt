@@ -10,6 +10,8 @@ ghost use Rattle.answers.specs.Request.{rule_asked, Replied};
 use frames::Frame;
 use layout::{QUEUE_SIZE, SEALED_SIZE, WORDS_SIZE};
 use paper::Rule;
+use std::io;
+use std::io::{ErrorKind, Read, Write};
 
 // The rule that a letter asks for, with or without a seal, if it is the letter of one.
 #[derive(Clone, Copy)]
@@ -65,51 +67,69 @@ fn reply_to(request: &[u8], report: &mut [u8], words: &mut [u16], queue: &mut [u
     }
 }
 
-fn malformed() -> bool {
-    io::write_all(libc::STDERR_FILENO, b"answers: malformed frame\n");
-    false
+// What ends the run where a frame is malformed.
+fn malformed() -> io::Error {
+    io::Error::new(ErrorKind::InvalidData, "malformed frame")
 }
 
-// The frame that answers a request; whether to go on.
-fn write_reply(
+// The frame that answers a request.
+fn write_reply<W: Write>(
+    output: &mut W,
     request: &[u8],
     report: &mut [u8],
     words: &mut [u16; WORDS_SIZE],
     queue: &mut [u8; QUEUE_SIZE],
-) -> bool {
+) -> io::Result<()> {
     let Reply::Text(length) = reply_to(request, report, words, queue) else {
-        return malformed();
+        return Err(malformed());
     };
-    if !frames::write(&report[..length]) {
-        os::fail(b"answers: standard output");
-        return false;
-    }
-    true
+    frames::write(output, &report[..length])
 }
 
 // One frame: whether to go on.
-fn one(
+fn one<R: Read, W: Write>(
+    input: &mut R,
+    output: &mut W,
     request: &mut [u8],
     report: &mut [u8],
     words: &mut [u16; WORDS_SIZE],
     queue: &mut [u8; QUEUE_SIZE],
-) -> bool {
-    let frame = frames::read(request);
+) -> io::Result<bool> {
+    let frame = frames::read(input, request);
     match frame {
-        Frame::Read(length) => write_reply(&request[..length], report, words, queue),
-        Frame::End => false,
-        Frame::Malformed => malformed(),
+        Frame::Read(length) => {
+            write_reply(output, &request[..length], report, words, queue)?;
+            Ok(true)
+        }
+        Frame::End => Ok(false),
+        Frame::Malformed => Err(malformed()),
     }
 }
 
-fn main() {
+// Every frame, to the end of the input.
+fn answer_all<R: Read, W: Write>(input: &mut R, output: &mut W) -> io::Result<()> {
     // A letter, and one byte more than the longest sheet, so that a longer one is seen to be too long.
     let mut request = [0u8; 65538];
     let mut report = [0u8; SEALED_SIZE];
     let mut words = [0u16; WORDS_SIZE];
     let mut queue = [0u8; QUEUE_SIZE];
-    let mut turns = u64::MAX;
-    while turns > 0 && one(&mut request, &mut report, &mut words, &mut queue) {
-        turns -= 1;
+    for _ in 0..u64::MAX {
+        if !one(
+            input,
+            output,
+            &mut request,
+            &mut report,
+            &mut words,
+            &mut queue,
+        )? {
+            break;
+        }
+    }
+    Ok(())
+}
+
+fn main(rt: HostRuntime) {
+    if let Err(error) = answer_all(&mut rt.stdin(), &mut rt.stdout()) {
+        let _ = eprintln!(rt; "answers: {error}");
     }
 }

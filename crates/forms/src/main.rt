@@ -8,6 +8,8 @@ ghost use Rattle.std.specs.Prelude.{◌≤◌, length};
 
 use frames::Frame;
 use paper::Written;
+use std::io;
+use std::io::{ErrorKind, Read, Write};
 
 const HEAD: usize = 3;
 
@@ -51,67 +53,73 @@ fn fill(room: &mut [u8]) {
     }
 }
 
-// The first two frames; whether they could be written.
-fn write_answer(words: &[u16], room: &mut [u8]) -> bool {
+// The first two frames.
+fn write_answer<W: Write>(output: &mut W, words: &[u16], room: &mut [u8]) -> io::Result<()> {
     let written = writer::write_sheet(words, room);
     match written {
         Written::Text(length) => {
-            if !frames::write(b"T") {
-                return false;
-            }
-            frames::write(&room[..length])
+            frames::write(output, b"T")?;
+            frames::write(output, &room[..length])
         }
         Written::NoSheet => {
-            if !frames::write(b"S") {
-                return false;
-            }
-            frames::write(b"")
+            frames::write(output, b"S")?;
+            frames::write(output, b"")
         }
         Written::NoRoom => {
-            if !frames::write(b"R") {
-                return false;
-            }
-            frames::write(b"")
+            frames::write(output, b"R")?;
+            frames::write(output, b"")
         }
     }
 }
 
-// The three frames of one form; whether they could be written.
-fn write_reply(words: &[u16], room: &mut [u8]) -> bool {
+// The three frames of one form.
+fn write_reply<W: Write>(output: &mut W, words: &[u16], room: &mut [u8]) -> io::Result<()> {
     fill(room);
-    if !write_answer(words, room) {
-        return false;
-    }
-    frames::write(room)
+    write_answer(output, words, room)?;
+    frames::write(output, room)
+}
+
+// What ends the run where a frame is malformed.
+fn malformed() -> io::Error {
+    io::Error::new(ErrorKind::InvalidData, "malformed frame")
 }
 
 // One frame: whether to go on.
-fn one(bytes: &mut [u8], words: &mut [u16], room: &mut [u8]) -> bool {
-    let frame = frames::read(bytes);
+fn one<R: Read, W: Write>(
+    input: &mut R,
+    output: &mut W,
+    bytes: &mut [u8],
+    words: &mut [u16],
+    room: &mut [u8],
+) -> io::Result<bool> {
+    let frame = frames::read(input, bytes);
     match frame {
         Frame::Read(length) => {
             let count = unpack(&bytes[..length], words);
             let size = size_of(&bytes[..length], room.len());
-            if !write_reply(&words[..count], &mut room[..size]) {
-                os::fail(b"forms: standard output");
-                return false;
-            }
-            true
+            write_reply(output, &words[..count], &mut room[..size])?;
+            Ok(true)
         }
-        Frame::End => false,
-        Frame::Malformed => {
-            io::write_all(libc::STDERR_FILENO, b"forms: malformed frame\n");
-            false
-        }
+        Frame::End => Ok(false),
+        Frame::Malformed => Err(malformed()),
     }
 }
 
-fn main() {
+// Every form, to the end of the input.
+fn write_all<R: Read, W: Write>(input: &mut R, output: &mut W) -> io::Result<()> {
     let mut bytes = [0u8; 70000];
     let mut words = [0u16; 33000];
     let mut room = [0u8; 66000];
-    let mut turns = u64::MAX;
-    while turns > 0 && one(&mut bytes, &mut words, &mut room) {
-        turns -= 1;
+    for _ in 0..u64::MAX {
+        if !one(input, output, &mut bytes, &mut words, &mut room)? {
+            break;
+        }
+    }
+    Ok(())
+}
+
+fn main(rt: HostRuntime) {
+    if let Err(error) = write_all(&mut rt.stdin(), &mut rt.stdout()) {
+        let _ = eprintln!(rt; "forms: {error}");
     }
 }

@@ -1,12 +1,15 @@
-// Frames on standard input and output: a line `#` and a decimal length of at most five digits, then that many bytes.
+// Frames of a reader and a writer: a line `#` and a decimal length of at most five digits, then that many bytes.
 
 #![tactic(auto)]
 
-ghost use Rattle.std.specs.Prelude.{◌≡◌, true, ◌≤◌, length};
+ghost use Rattle.std.specs.Prelude.{◌≡◌, OnOk, ◌≤◌, length, take};
+ghost use Rattle.std.specs.Io.KnownBytes.{Appends, Consumes};
 ghost use Rattle.lists.specs.Sets.{Wrote};
-ghost use Rattle.frames.specs.Frame.{longest_frame, longest_head, frame_head, length_of, LengthWithin, LineLeft, FrameLeft};
+ghost use Rattle.frames.specs.Frame.{longest_frame, longest_head, frame_head, framed, length_of, LengthWithin, ByteTaken, LineLeft, FrameLeft, FrameTaken};
 
 use fields::{End, Number};
+use std::io;
+use std::io::{ErrorKind, Read, Write};
 
 const LONGEST_FRAME: usize = 99999;
 
@@ -30,23 +33,25 @@ enum Length {
     Bad,
 }
 
-fn read_byte() -> Byte {
+fn read_byte<R: Read>(input: &mut R) -> Byte
+    ensures { ByteTaken (R.remaining input.old) (R.remaining input.new) result }
+{
     let mut one = [0u8; 1];
-    let got = libc::read(libc::STDIN_FILENO, &mut one);
-    if got == 1 {
-        Byte::Value(one[0])
-    } else {
-        Byte::None
+    match input.read(&mut one) {
+        Ok(1) => Byte::Value(one[0]),
+        Ok(_) => Byte::None,
+        Err(_) => Byte::None,
     }
 }
 
 // Reads a line to the start of `line`, at most as much as it has room for: its length.
-fn read_line(line: &mut [u8]) -> usize
-    ensures { LineLeft line.old line.new result }
+fn read_line<R: Read>(input: &mut R, line: &mut [u8]) -> usize
+    ensures left { LineLeft line.old line.new result }
+    ensures taken { Consumes (R.remaining input.old) (R.remaining input.new) (take result line.new) }
 {
     let mut n: usize = 0;
     while n < line.len() {
-        let Byte::Value(b) = read_byte() else {
+        let Byte::Value(b) = read_byte(input) else {
             return n;
         };
         line[n] = b;
@@ -79,11 +84,12 @@ fn length_of(line: &[u8]) -> Length
 }
 
 // Reads one frame to the start of the room.
-pub fn read(room: &mut [u8]) -> Frame
-    ensures { FrameLeft room.old room.new result }
+pub fn read<R: Read>(input: &mut R, room: &mut [u8]) -> Frame
+    ensures left { FrameLeft room.old room.new result }
+    ensures taken { FrameTaken (R.remaining input.old) (R.remaining input.new) room.new result }
 {
     let mut head = [0u8; 7];
-    let n = read_line(&mut head);
+    let n = read_line(input, &mut head);
     if n == 0 {
         return Frame::End;
     }
@@ -93,8 +99,7 @@ pub fn read(room: &mut [u8]) -> Frame
     if room.len() < length {
         return Frame::Malformed;
     }
-    let got = io::read_full(libc::STDIN_FILENO, &mut room[..length]);
-    if got < length {
+    if input.read_exact(&mut room[..length]).is_err() {
         return Frame::Malformed;
     }
     Frame::Read(length)
@@ -109,17 +114,16 @@ fn write_head(head: &mut [u8], n: usize) -> usize
     fields::write_byte(head, end, b'\n')
 }
 
-// Writes a text of at most 99,999 bytes as a frame; whether all of it could be written.
-pub fn write(text: &[u8]) -> bool
-    ensures { result ≡ true → length text.now ≤ longest_frame }
+// Writes a text of at most 99,999 bytes as a frame.
+pub fn write<W: Write>(output: &mut W, text: &[u8]) -> io::Result<()>
+    ensures within { OnOk result (length text.now ≤ longest_frame) }
+    ensures written { OnOk result (Appends (W.contents output.old) (W.contents output.new) (framed text.now)) }
 {
     if LONGEST_FRAME < text.len() {
-        return false;
+        return Err(io::Error::from(ErrorKind::InvalidInput));
     }
     let mut head = [0u8; 7];
     let end = write_head(&mut head, text.len());
-    if !io::write_all(libc::STDOUT_FILENO, &head[..end]) {
-        return false;
-    }
-    io::write_all(libc::STDOUT_FILENO, text)
+    output.write_all(&head[..end])?;
+    output.write_all(text)
 }

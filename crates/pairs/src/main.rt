@@ -6,6 +6,8 @@
 ghost use Rattle.pairs.specs.Texts.{TextWithin};
 
 use frames::Frame;
+use std::io;
+use std::io::{ErrorKind, Read, Write};
 
 const LONGEST_FRAME: usize = 99999;
 
@@ -22,12 +24,12 @@ enum Text {
 }
 
 // Reads a text to the start of the room.
-fn read_text(room: &mut [u8]) -> Text
+fn read_text<R: Read>(input: &mut R, room: &mut [u8]) -> Text
     ensures { TextWithin room.new result }
 {
     let mut n: usize = 0;
     while n <= room.len() {
-        let frame = frames::read(&mut room[n..]);
+        let frame = frames::read(input, &mut room[n..]);
         match frame {
             Frame::Read(length) => {
                 n += length;
@@ -49,55 +51,70 @@ fn read_text(room: &mut [u8]) -> Text
     Text::Malformed
 }
 
-// Writes a text; whether all of it could be written.
-fn write_text(text: &[u8]) -> bool {
+// Writes a text.
+fn write_text<W: Write>(output: &mut W, text: &[u8]) -> io::Result<()> {
     let mut at: usize = 0;
     while LONGEST_FRAME <= text.len() - at {
         let end = at + LONGEST_FRAME;
-        if !frames::write(&text[at..end]) {
-            return false;
-        }
+        frames::write(output, &text[at..end])?;
         at = end;
     }
-    frames::write(&text[at..])
+    frames::write(output, &text[at..])
 }
 
-fn malformed() -> bool {
-    io::write_all(libc::STDERR_FILENO, b"pairs: malformed frame\n");
-    false
+// What ends the run where a frame is malformed.
+fn malformed() -> io::Error {
+    io::Error::new(ErrorKind::InvalidData, "malformed frame")
 }
 
-// The text that answers a pair; whether to go on.
-fn answer<'a>(first: &'a [u8], second: &'a [u8], out: &mut [u8]) -> bool {
+// The text that answers a pair.
+fn answer<'a, W: Write>(
+    output: &mut W,
+    first: &'a [u8],
+    second: &'a [u8],
+    out: &mut [u8],
+) -> io::Result<()> {
     let length = compare::compared_text(first, second, out);
-    if !write_text(&out[..length]) {
-        os::fail(b"pairs: standard output");
-        return false;
-    }
-    true
+    write_text(output, &out[..length])
 }
 
 // One pair: whether to go on.
-fn one(first: &mut [u8], second: &mut [u8], out: &mut [u8]) -> bool {
-    let text = read_text(first);
+fn one<R: Read, W: Write>(
+    input: &mut R,
+    output: &mut W,
+    first: &mut [u8],
+    second: &mut [u8],
+    out: &mut [u8],
+) -> io::Result<bool> {
+    let text = read_text(input, first);
     match text {
         Text::Read(n) => {
-            let Text::Read(m) = read_text(second) else {
-                return malformed();
+            let Text::Read(m) = read_text(input, second) else {
+                return Err(malformed());
             };
-            answer(&first[..n], &second[..m], out)
+            answer(output, &first[..n], &second[..m], out)?;
+            Ok(true)
         }
-        Text::End => false,
-        Text::Malformed => malformed(),
+        Text::End => Ok(false),
+        Text::Malformed => Err(malformed()),
     }
 }
 
-fn main() {
+// Every pair, to the end of the input.
+fn compare_all<R: Read, W: Write>(input: &mut R, output: &mut W) -> io::Result<()> {
     let mut first = [0u8; LONGEST_REPORT];
     let mut second = [0u8; LONGEST_REPORT];
     let mut out = [0u8; LONGEST_TEXT];
-    let mut turns = u64::MAX;
-    while turns > 0 && one(&mut first, &mut second, &mut out) {
-        turns -= 1;
+    for _ in 0..u64::MAX {
+        if !one(input, output, &mut first, &mut second, &mut out)? {
+            break;
+        }
+    }
+    Ok(())
+}
+
+fn main(rt: HostRuntime) {
+    if let Err(error) = compare_all(&mut rt.stdin(), &mut rt.stdout()) {
+        let _ = eprintln!(rt; "pairs: {error}");
     }
 }

@@ -2,8 +2,9 @@
 
 #![tactic(auto)]
 
+use std::io;
 use stored::List;
 
-fn main() {
-    stored::run(List::Answers);
+fn main(rt: HostRuntime) -> io::Result<()> {
+    stored::run(&mut rt.stdin(), &mut rt.stdout(), List::Answers)
 }

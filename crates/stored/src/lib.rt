@@ -1,4 +1,4 @@
-// Runs a stored list of sheets: standard input is frames, each sheet followed by what is stored of it. What is stored is computed
+// Runs a stored list of sheets: the input is frames, each sheet followed by what is stored of it. What is stored is computed
 // anew and compared; the last line says how many sheets differ.
 
 #![tactic(auto)]
@@ -10,6 +10,8 @@ use frames::Frame;
 use layout::{QUEUE_SIZE, WORDS_SIZE};
 use paper::Rule;
 use states::{Part, STATES_SIZE};
+use std::io;
+use std::io::{Read, Write};
 
 // The most sheets of one kind that are counted.
 const MOST: u64 = 1000000;
@@ -63,11 +65,10 @@ pub fn counted(tally: Tally, outcome: Outcome) -> Tally
 }
 
 // Writes how many sheets were the same, and how many differ.
-pub fn say(tally: Tally) {
-    io::print_decimal(libc::STDOUT_FILENO, tally.same);
-    io::write_all(libc::STDOUT_FILENO, b" sheets the same, ");
-    io::print_decimal(libc::STDOUT_FILENO, tally.different);
-    io::write_all(libc::STDOUT_FILENO, b" different\n");
+pub fn say<W: Write>(output: &mut W, tally: Tally) -> io::Result<()> {
+    let same = tally.same;
+    let different = tally.different;
+    writeln!(output, "{same} sheets the same, {different} different")
 }
 
 // What is stored of a sheet: its old answer, its house answer, its old and its house entry states; or `X number line field` where it is
@@ -79,8 +80,8 @@ pub enum List {
 }
 
 // Is the next frame the text?
-fn next_is(text: &[u8], stored: &mut [u8]) -> bool {
-    let frame = frames::read(stored);
+fn next_is<R: Read>(input: &mut R, text: &[u8], stored: &mut [u8]) -> bool {
+    let frame = frames::read(input, stored);
     match frame {
         Frame::Read(length) => check::same(text, &stored[..length]),
         Frame::End => false,
@@ -89,7 +90,8 @@ fn next_is(text: &[u8], stored: &mut [u8]) -> bool {
 }
 
 // Is one part of a sheet's texts what is stored, under both rules?
-fn same_part(
+fn same_part<R: Read>(
+    input: &mut R,
     part: Part,
     sheet: &[u8],
     stored: &mut [u8],
@@ -98,25 +100,26 @@ fn same_part(
     queue: &mut [u8; QUEUE_SIZE],
 ) -> bool {
     let old = states::text_of(part, Rule::Old, sheet, text, words, queue);
-    let first = next_is(&text[..old], stored);
+    let first = next_is(input, &text[..old], stored);
     let house = states::text_of(part, Rule::House, sheet, text, words, queue);
-    let second = next_is(&text[..house], stored);
+    let second = next_is(input, &text[..house], stored);
     first & second
 }
 
 // Does an answer agree with the next frame? A report says that the sheet was read.
-fn agrees(text: &[u8], stored: &mut [u8]) -> bool {
+fn agrees<R: Read>(input: &mut R, text: &[u8], stored: &mut [u8]) -> bool {
     if text.len() == 0 {
         return false;
     }
     if text[0] == b'X' {
-        return next_is(text, stored);
+        return next_is(input, text, stored);
     }
-    next_is(b"ok\n", stored)
+    next_is(input, b"ok\n", stored)
 }
 
 // Is what the reader makes of a sheet what is stored?
-fn same_reading(
+fn same_reading<R: Read>(
+    input: &mut R,
     sheet: &[u8],
     stored: &mut [u8],
     text: &mut [u8],
@@ -124,11 +127,12 @@ fn same_reading(
     queue: &mut [u8; QUEUE_SIZE],
 ) -> bool {
     let said = states::text_of(Part::Answer, Rule::House, sheet, text, words, queue);
-    agrees(&text[..said], stored)
+    agrees(input, &text[..said], stored)
 }
 
 // Is all that the list has of a sheet what is stored?
-fn same(
+fn same<R: Read>(
+    input: &mut R,
     list: List,
     sheet: &[u8],
     stored: &mut [u8],
@@ -138,16 +142,17 @@ fn same(
 ) -> bool {
     match list {
         List::Answers => {
-            let answers = same_part(Part::Answer, sheet, stored, text, words, queue);
-            let states = same_part(Part::States, sheet, stored, text, words, queue);
+            let answers = same_part(input, Part::Answer, sheet, stored, text, words, queue);
+            let states = same_part(input, Part::States, sheet, stored, text, words, queue);
             answers & states
         }
-        List::Readings => same_reading(sheet, stored, text, words, queue),
+        List::Readings => same_reading(input, sheet, stored, text, words, queue),
     }
 }
 
 // One sheet and what is stored of it.
-fn one(
+fn one<R: Read>(
+    input: &mut R,
     list: List,
     sheet: &mut [u8],
     stored: &mut [u8],
@@ -155,11 +160,11 @@ fn one(
     words: &mut [u16; WORDS_SIZE],
     queue: &mut [u8; QUEUE_SIZE],
 ) -> Outcome {
-    let frame = frames::read(sheet);
+    let frame = frames::read(input, sheet);
     let Frame::Read(length) = frame else {
         return Outcome::End;
     };
-    if same(list, &sheet[..length], stored, text, words, queue) {
+    if same(input, list, &sheet[..length], stored, text, words, queue) {
         Outcome::Same
     } else {
         Outcome::Different
@@ -167,7 +172,7 @@ fn one(
 }
 
 // The whole list, and the last line.
-pub fn run(list: List) {
+pub fn run<R: Read, W: Write>(input: &mut R, output: &mut W, list: List) -> io::Result<()> {
     let mut sheet = [0u8; 70000];
     let mut stored = [0u8; 70000];
     let mut text = [0u8; STATES_SIZE];
@@ -181,6 +186,7 @@ pub fn run(list: List) {
     let mut turns: u64 = 1000000;
     while turns > 0 && tally.more {
         let outcome = one(
+            input,
             list,
             &mut sheet,
             &mut stored,
@@ -191,5 +197,5 @@ pub fn run(list: List) {
         tally = counted(tally, outcome);
         turns -= 1;
     }
-    say(tally);
+    say(output, tally)
 }

@@ -10,21 +10,22 @@ use frames::Frame;
 use layout::{MAX_SHEET, QUEUE_SIZE, WORDS_SIZE};
 use paper::{Answer, Rule, Written};
 use states::Part;
+use std::io;
+use std::io::{ErrorKind, Read, Write};
 
-// One part of a sheet's texts under both rules; whether both could be written.
-fn write_part(
+// One part of a sheet's texts under both rules.
+fn write_part<W: Write>(
+    output: &mut W,
     part: Part,
     sheet: &[u8],
     text: &mut [u8],
     words: &mut [u16; WORDS_SIZE],
     queue: &mut [u8; QUEUE_SIZE],
-) -> bool {
+) -> io::Result<()> {
     let old = states::text_of(part, Rule::Old, sheet, text, words, queue);
-    if !frames::write(&text[..old]) {
-        return false;
-    }
+    frames::write(output, &text[..old])?;
     let house = states::text_of(part, Rule::House, sheet, text, words, queue);
-    frames::write(&text[..house])
+    frames::write(output, &text[..house])
 }
 
 // The sealed house report: its length, 0 where the sheet is refused.
@@ -39,15 +40,16 @@ fn sealed_length(sheet: &[u8], text: &mut [u8], words: &mut [u16], queue: &mut [
     }
 }
 
-// The sealed house report as a frame; whether it could be written.
-fn write_sealed(
+// The sealed house report as a frame.
+fn write_sealed<W: Write>(
+    output: &mut W,
     sheet: &[u8],
     text: &mut [u8],
     words: &mut [u16; WORDS_SIZE],
     queue: &mut [u8; QUEUE_SIZE],
-) -> bool {
+) -> io::Result<()> {
     let length = sealed_length(sheet, text, words, queue);
-    frames::write(&text[..length])
+    frames::write(output, &text[..length])
 }
 
 // The sheet written back: its length, 0 where the sheet is refused.
@@ -62,64 +64,80 @@ fn back_length(sheet: &[u8], text: &mut [u8], words: &mut [u16]) -> usize
     }
 }
 
-// The sheet written back as a frame; whether it could be written.
-fn write_back(sheet: &[u8], text: &mut [u8], words: &mut [u16; WORDS_SIZE]) -> bool {
+// The sheet written back as a frame.
+fn write_back<W: Write>(
+    output: &mut W,
+    sheet: &[u8],
+    text: &mut [u8],
+    words: &mut [u16; WORDS_SIZE],
+) -> io::Result<()> {
     let length = back_length(sheet, text, words);
-    frames::write(&text[..length])
+    frames::write(output, &text[..length])
 }
 
-// The six frames of one sheet; whether to go on.
-fn write_frames(
+// The six frames of one sheet.
+fn write_frames<W: Write>(
+    output: &mut W,
     sheet: &[u8],
     text: &mut [u8],
     words: &mut [u16; WORDS_SIZE],
     queue: &mut [u8; QUEUE_SIZE],
-) -> bool {
-    if !write_part(Part::Answer, sheet, text, words, queue) {
-        os::fail(b"stream: standard output");
-        return false;
-    }
-    if !write_part(Part::States, sheet, text, words, queue) {
-        os::fail(b"stream: standard output");
-        return false;
-    }
-    if !write_sealed(sheet, text, words, queue) {
-        os::fail(b"stream: standard output");
-        return false;
-    }
-    if !write_back(sheet, text, words) {
-        os::fail(b"stream: standard output");
-        return false;
-    }
-    true
+) -> io::Result<()> {
+    write_part(output, Part::Answer, sheet, text, words, queue)?;
+    write_part(output, Part::States, sheet, text, words, queue)?;
+    write_sealed(output, sheet, text, words, queue)?;
+    write_back(output, sheet, text, words)
+}
+
+// What ends the run where a frame is malformed.
+fn malformed() -> io::Error {
+    io::Error::new(ErrorKind::InvalidData, "malformed frame")
 }
 
 // One frame: whether to go on.
-fn one(
+fn one<R: Read, W: Write>(
+    input: &mut R,
+    output: &mut W,
     sheet: &mut [u8],
     text: &mut [u8],
     words: &mut [u16; WORDS_SIZE],
     queue: &mut [u8; QUEUE_SIZE],
-) -> bool {
-    let frame = frames::read(sheet);
+) -> io::Result<bool> {
+    let frame = frames::read(input, sheet);
     match frame {
-        Frame::Read(length) => write_frames(&sheet[..length], text, words, queue),
-        Frame::End => false,
-        Frame::Malformed => {
-            io::write_all(libc::STDERR_FILENO, b"stream: malformed frame\n");
-            false
+        Frame::Read(length) => {
+            write_frames(output, &sheet[..length], text, words, queue)?;
+            Ok(true)
         }
+        Frame::End => Ok(false),
+        Frame::Malformed => Err(malformed()),
     }
 }
 
-fn main() {
+// Every sheet, to the end of the input.
+fn answer_all<R: Read, W: Write>(input: &mut R, output: &mut W) -> io::Result<()> {
     let mut sheet = [0u8; 70000];
     // Room for a sheet, and so for each text of it.
     let mut text = [0u8; MAX_SHEET];
     let mut words = [0u16; WORDS_SIZE];
     let mut queue = [0u8; QUEUE_SIZE];
-    let mut turns = u64::MAX;
-    while turns > 0 && one(&mut sheet, &mut text, &mut words, &mut queue) {
-        turns -= 1;
+    for _ in 0..u64::MAX {
+        if !one(
+            input,
+            output,
+            &mut sheet,
+            &mut text,
+            &mut words,
+            &mut queue,
+        )? {
+            break;
+        }
+    }
+    Ok(())
+}
+
+fn main(rt: HostRuntime) {
+    if let Err(error) = answer_all(&mut rt.stdin(), &mut rt.stdout()) {
+        let _ = eprintln!(rt; "stream: {error}");
     }
 }

@@ -8,6 +8,8 @@ ghost use Rattle.std.specs.Prelude.{◌≤◌, length};
 use frames::Frame;
 use layout::{MAX_SHEET, QUEUE_SIZE, WORDS_SIZE};
 use paper::{Rule, Written};
+use std::io;
+use std::io::{ErrorKind, Read, Write};
 
 // The sheet written back, or `X number line field`: its length.
 fn reply_to(sheet: &[u8], text: &mut [u8], words: &mut [u16], queue: &mut [u8]) -> usize
@@ -21,48 +23,66 @@ fn reply_to(sheet: &[u8], text: &mut [u8], words: &mut [u16], queue: &mut [u8]) 
     }
 }
 
-// The frame that answers a sheet; whether it could be written.
-fn write_reply(
+// The frame that answers a sheet.
+fn write_reply<W: Write>(
+    output: &mut W,
     sheet: &[u8],
     text: &mut [u8],
     words: &mut [u16; WORDS_SIZE],
     queue: &mut [u8; QUEUE_SIZE],
-) -> bool {
+) -> io::Result<()> {
     let length = reply_to(sheet, text, words, queue);
-    frames::write(&text[..length])
+    frames::write(output, &text[..length])
+}
+
+// What ends the run where a frame is malformed.
+fn malformed() -> io::Error {
+    io::Error::new(ErrorKind::InvalidData, "malformed frame")
 }
 
 // One frame: whether to go on.
-fn one(
+fn one<R: Read, W: Write>(
+    input: &mut R,
+    output: &mut W,
     sheet: &mut [u8],
     text: &mut [u8],
     words: &mut [u16; WORDS_SIZE],
     queue: &mut [u8; QUEUE_SIZE],
-) -> bool {
-    let frame = frames::read(sheet);
+) -> io::Result<bool> {
+    let frame = frames::read(input, sheet);
     match frame {
         Frame::Read(length) => {
-            if !write_reply(&sheet[..length], text, words, queue) {
-                os::fail(b"writes: standard output");
-                return false;
-            }
-            true
+            write_reply(output, &sheet[..length], text, words, queue)?;
+            Ok(true)
         }
-        Frame::End => false,
-        Frame::Malformed => {
-            io::write_all(libc::STDERR_FILENO, b"writes: malformed frame\n");
-            false
-        }
+        Frame::End => Ok(false),
+        Frame::Malformed => Err(malformed()),
     }
 }
 
-fn main() {
+// Every sheet, to the end of the input.
+fn write_all<R: Read, W: Write>(input: &mut R, output: &mut W) -> io::Result<()> {
     let mut sheet = [0u8; 70000];
     let mut text = [0u8; MAX_SHEET];
     let mut words = [0u16; WORDS_SIZE];
     let mut queue = [0u8; QUEUE_SIZE];
-    let mut turns = u64::MAX;
-    while turns > 0 && one(&mut sheet, &mut text, &mut words, &mut queue) {
-        turns -= 1;
+    for _ in 0..u64::MAX {
+        if !one(
+            input,
+            output,
+            &mut sheet,
+            &mut text,
+            &mut words,
+            &mut queue,
+        )? {
+            break;
+        }
+    }
+    Ok(())
+}
+
+fn main(rt: HostRuntime) {
+    if let Err(error) = write_all(&mut rt.stdin(), &mut rt.stdout()) {
+        let _ = eprintln!(rt; "writes: {error}");
     }
 }
