@@ -1,8 +1,7 @@
 -- A frame's first line; and what is known of a frame that was read, of the room that was lent for it, and of the bytes that a reader had
 -- and a writer holds, where those are known.
-use Rattle.std.specs.Prelude.{◌≡◌, List, [], ◌∷◌, ◌++◌, cond, ℕ, ◌+◌, ◌≤◌, ◌<◌, eqb, length, get_or, take, drop}
+use Rattle.std.specs.Prelude.{◌≡◌, List, [], ◌∷◌, ◌++◌, cond, ℕ, ◌+◌, ◌≤◌, ◌<◌, eqb, length, get_or, take, drop, Option}
 use Rattle.std.specs.Io.KnownBytes.{Keeps, Consumes}
-use Rattle.core.specs.declared.option.Option.{Option}
 use Rattle.paper.specs.Text.{Bytes, line_feed, digits}
 use Rattle.fields.specs.Fields.{number_at, end_at}
 use Rattle.fields.specs.declared.Number as Number
