@@ -1,14 +1,12 @@
 -- What a line that is read byte by byte has; what a frame's first line says, test by test; and a room whose first bytes were written
 -- anew keeps the others.
-use mathlib.Core.Path.{◌≡◌, refl, sym, ap, ◌∙◌}
-use mathlib.Core.List.{List, [], ◌∷◌, ◌++◌}
-use Prim.Native.Nat.{ℕ, ◌+◌, ◌-◌, ◌≤◌, ◌<◌}
-use native.Mathlib.Omega.{arith}
+use Rattle.std.proofs.Common.{◌≡◌, refl, sym, ap, ◌∙◌, List, [], ◌∷◌, ◌++◌, ℕ, ◌+◌, ◌-◌, ◌≤◌, ◌<◌, arith, length, get_or, set, take, drop, length-append, length-drop, length-set, get_or-set_same, get_or-set_other}
 use borrow.Author.Tests.{eq-eqb, ne_eqb}
 use denote.Enum.Declared.{tag_of}
 use types.Run.{OneOf, miss}
-use lib.ListN.{length, get_or, set, drop, length-append, length-drop, length-set}
-use lib.Seq.{drop-append_seam, drop-drop, get_or-set_same, get_or-set_other}
+use lib.Seq.{drop-append_seam, drop-drop, take-append_seam}
+use Rattle.std.proofs.lemmas.List.Edits.{sets-eq}
+use Rattle.lists.specs.Sets.{Wrote}
 use Rattle.lists.specs.Split.{by_equal}
 use Rattle.paper.specs.Text.{Bytes, line_feed}
 use Rattle.fields.specs.Fields.{number_at, end_at}
@@ -91,3 +89,11 @@ pub kept_further : (n m : ℕ) (a b : List ℕ) → n ≤ m → drop n a ≡ dro
 kept_further n m a b h e =
     let s : n + (m - n) ≡ m = omega arith in
     rw s at (sym (drop-drop (m - n) n a) ∙ ap (drop (m - n)) e ∙ drop-drop (m - n) n b)
+
+-- a run that was written at the start of a list is its first part
+pub wrote_first : {l xs l' : List ℕ} {j : ℕ} → Wrote l 0 xs l' j → j ≤ length l → take j l' ≡ xs
+wrote_first {l} {xs} {l'} {j} w h =
+    let size : j ≡ length xs = omega (arith, w.next) in
+    let room : 0 + length xs ≤ length l = omega arith in
+    let whole : l' ≡ xs ++ drop (0 + length xs) l = w.list ∙ sets-eq xs l 0 room in
+    rw (size, whole) (take-append_seam xs (drop (0 + length xs) l))
