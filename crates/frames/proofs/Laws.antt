@@ -2,8 +2,6 @@
 -- anew keeps the others.
 use Rattle.std.proofs.Common.{◌≡◌, refl, sym, ap, ◌∙◌, List, [], ◌∷◌, ◌++◌, ℕ, ◌+◌, ◌-◌, ◌≤◌, ◌<◌, arith, length, get_or, set, take, drop, length-append, length-drop, length-set, get_or-set_same, get_or-set_other}
 use borrow.Author.Tests.{eq-eqb, ne_eqb}
-use denote.Enum.Declared.{tag_of}
-use types.Run.{OneOf, miss}
 use lib.Seq.{drop-append_seam, drop-drop, take-append_seam}
 use Rattle.std.proofs.lemmas.List.Edits.{sets-eq}
 use Rattle.lists.specs.Sets.{Wrote}
@@ -13,7 +11,6 @@ use Rattle.fields.specs.Fields.{number_at, end_at}
 use Rattle.fields.specs.declared.Number.TheVariants as number
 use Rattle.fields.specs.declared.End as End
 use Rattle.fields.specs.declared.End.TheVariants as end
-use Rattle.fields.specs.contracts.End.{the_type}
 use Rattle.frames.specs.Frame.{hash, length_ended, length_behind, length_of, LineLeft}
 use Rattle.frames.specs.declared.Length.TheVariants as length_variants
 
@@ -70,12 +67,12 @@ module _ (line : Bytes) where
     unfolding length_ended
     ended says ends = rw (← ends) at (number_ended says)
 
-    pub not_ended : {n next : ℕ} (e : End.End) → number_at line 1 ≡ number.Value n next → e ≡ end_at line next → OneOf (0 ∷ 2 ∷ []) (tag_of the_type e)
+    pub not_ended : {n next : ℕ} (e : End.End) → number_at line 1 ≡ number.Value n next → e ≡ end_at line next → (e ≡ end.LineFeed → ⊥)
         → length_variants.Bad ≡ length_of line
     unfolding length_ended
-    not_ended end.Tab says ends k = rw (← ends) at (number_ended says)
-    not_ended end.LineFeed says ends k = absurd (miss (0 ∷ 2 ∷ []) 1 tt k)
-    not_ended end.Neither says ends k = rw (← ends) at (number_ended says)
+    not_ended end.Tab says ends d = rw (← ends) at (number_ended says)
+    not_ended end.LineFeed says ends d = absurd (d refl)
+    not_ended end.Neither says ends d = rw (← ends) at (number_ended says)
 
 -- the room
 
