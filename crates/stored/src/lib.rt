@@ -33,6 +33,7 @@ pub struct Tally {
 }
 
 // One more, where it can be counted.
+#[tactic(auto, unfolding(crate::specs::Counted::next))]
 fn next(n: u64) -> u64
     ensures { result ≡ told.next n }
 {
@@ -40,6 +41,7 @@ fn next(n: u64) -> u64
 }
 
 // The tally with one sheet more.
+#[tactic(auto, unfolding(crate::specs::Counted::counted))]
 pub fn counted(tally: Tally, outcome: Outcome) -> Tally
     ensures { result ≡ told.counted tally outcome }
 {
