@@ -1,5 +1,5 @@
 -- What a first line says, test by test.
-use Rattle.std.proofs.Common.{sym, ◌∙◌}
+use Rattle.std.proofs.Common.{sym}
 use Rattle.frames.proofs.Laws.{empty_line, no_hash, no_number, ended, not_ended}
 use Rattle.frames.proofs.length_of.Goals as goal
 
@@ -15,7 +15,7 @@ returns-in_default-clause-value c = no_number _ c.if-line-ne35.false (sym c.in_d
 pub returns-in_default-ends : goal.returns-in_default-ends
 returns-in_default-ends c = record {
   value = not_ended _ c.if-line-ne35.false c.ends.result (sym c.in-Value.ensures.value) c.ends.ensures.value c.in_default-ends.not-LineFeed;
-  within = tt
+  within = tt;
 }
 
 pub returns-clause-value : goal.returns-clause-value

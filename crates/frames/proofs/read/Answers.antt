@@ -1,5 +1,5 @@
 -- What is no frame went to the room's first bytes, and nothing else was written.
-use Rattle.std.proofs.Common.{rules, arith, length}
+use Rattle.std.proofs.Common.{rules}
 use Rattle.frames.specs.Frame.{longest_frame}
 use Rattle.frames.proofs.Laws.{kept_behind, kept_further}
 use Rattle.frames.proofs.read.Goals as goal

@@ -7,7 +7,7 @@ use Rattle.frames.proofs.read_line.Given as goal
 abbrev pub invariant-loop-n : goal.invariant-loop-n
 invariant-loop-n g l = record {
   reading : LineReading l.initial.line l.line l.n;
-  taken : Consumes (g.R.Read.remaining l.initial.input) (g.R.Read.remaining l.input) (take l.n l.line)
+  taken : Consumes (g.R.Read.remaining l.initial.input) (g.R.Read.remaining l.input) (take l.n l.line);
 }
 
 abbrev pub decreases-loop-n : goal.decreases-loop-n
