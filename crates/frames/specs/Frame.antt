@@ -13,7 +13,7 @@ use Rattle.frames.specs.declared.Frame.TheVariants.{Read, End, Malformed}
 use Rattle.frames.specs.declared.Byte.{Byte}
 use Rattle.frames.specs.declared.Byte.TheVariants as byte
 use Rattle.frames.specs.declared.Length.{Length}
-use Rattle.frames.specs.declared.Length.TheVariants as length
+use Rattle.frames.specs.declared.Length.TheVariants as length_variants
 
 abbrev pub hash : ℕ
 hash = 35
@@ -24,20 +24,20 @@ longest_frame = 99999
 
 -- the length that a line says: `#`, a number as sheets spell it, LF
 unfoldable pub length_ended : ℕ → End.End → Length
-length_ended n end.LineFeed = length.Value n
-length_ended n end.Tab = length.Bad
-length_ended n end.Neither = length.Bad
+length_ended n end.LineFeed = length_variants.Value n
+length_ended n end.Tab = length_variants.Bad
+length_ended n end.Neither = length_variants.Bad
 
 unfoldable pub length_behind : Bytes → Number.Number → Length
-length_behind line number.Bad = length.Bad
+length_behind line number.Bad = length_variants.Bad
 length_behind line (number.Value n next) = length_ended n (end_at line next)
 
 unfoldable pub length_of : Bytes → Length
-length_of line = cond (eqb (get_or line 0 0) hash) (length_behind line (number_at line 1)) length.Bad
+length_of line = cond (eqb (get_or line 0 0) hash) (length_behind line (number_at line 1)) length_variants.Bad
 
 abbrev pub LengthWithin : Length → Type 0
-LengthWithin (length.Value n) = n ≤ longest_frame
-LengthWithin length.Bad = Unit {0}
+LengthWithin (length_variants.Value n) = n ≤ longest_frame
+LengthWithin length_variants.Bad = Unit {0}
 
 -- a byte was taken from what a reader had, or nothing was
 abbrev pub ByteTaken : Option Bytes → Option Bytes → Byte → Type 0
@@ -60,7 +60,7 @@ FrameLeft before after Malformed = drop longest_frame after ≡ drop longest_fra
 -- what was taken from a reader: of a frame that was read its first line, which says its length, and its bytes; at the end of the input
 -- nothing; of what is no frame it is not said
 abbrev pub FrameTaken : Option Bytes → Option Bytes → List ℕ → Frame → Type 0
-FrameTaken old new after (Read n) = (line : Bytes) × (length_of line ≡ length.Value n) × Consumes old new (line ++ take n after)
+FrameTaken old new after (Read n) = (line : Bytes) × (length_of line ≡ length_variants.Value n) × Consumes old new (line ++ take n after)
 FrameTaken old new after End = Keeps old new
 FrameTaken old new after Malformed = Unit {0}
 
