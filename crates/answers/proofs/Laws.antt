@@ -1,10 +1,5 @@
 -- What a request is answered with, by what the code looks at: its length, its first byte, what stands behind it.
-use mathlib.Core.Path.{◌≡◌, refl, ap, sym, ◌∙◌}
-use mathlib.Core.List.{List, [], ◌∷◌}
-use Prim.Native.Nat.{ℕ, ◌-◌}
-use native.Mathlib.Omega.{arith}
-use lib.ListN.{length, get_or, take, drop, length-drop}
-use lib.Seq.{take_all}
+use Rattle.std.proofs.Common.{◌≡◌, refl, ap, sym, ◌∙◌, List, [], ◌∷◌, ℕ, ◌-◌, arith, length, get_or, take, drop, length-drop, take_all}
 use Rattle.paper.specs.Text.{Bytes}
 use Rattle.paper.specs.Limits.{report_size, sealed_size}
 use Rattle.paper.specs.Answer.{Lent, answer, written}

@@ -28,6 +28,7 @@ enum Reply {
     Malformed,
 }
 
+#[tactic(auto, unfolding(crate::specs::Request::rule_asked))]
 fn rule_asked(letter: u8) -> Asked
     ensures { result ≡ rule_asked letter }
 {
