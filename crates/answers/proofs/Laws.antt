@@ -1,13 +1,12 @@
 -- What a request is answered with, by what the code looks at: its length, its first byte, what stands behind it.
-use Rattle.std.proofs.Common.{◌≡◌, refl, ap, sym, ◌∙◌, List, [], ◌∷◌, ℕ, ◌-◌, arith, length, get_or, take, drop, length-drop, take_all}
+use Rattle.std.proofs.Common.{◌≡◌, refl, ap, sym, ◌∙◌, [], ◌∷◌, ℕ, ◌-◌, arith, length, get_or, take, drop, length-drop, take_all}
 use Rattle.paper.specs.Text.{Bytes}
 use Rattle.paper.specs.Limits.{report_size, sealed_size}
 use Rattle.paper.specs.Answer.{Lent, answer, written}
 use Rattle.paper.specs.Seal.{sealed_said}
 use Rattle.paper.specs.declared.Rule.{Rule}
-use Rattle.checker.specs.Checked.{Stated, TextOutcome, text_outcome}
-use Rattle.answers.specs.Request.{rule_asked, ReplyOutcome, texted, reply_under, reply_outcome, Replied}
-use Rattle.answers.specs.declared.Asked.{Asked}
+use Rattle.checker.specs.Checked.{Stated, text_outcome}
+use Rattle.answers.specs.Request.{rule_asked, texted, reply_under, reply_outcome, Replied}
 use Rattle.answers.specs.declared.Asked.TheVariants.{For, Sealed, Nothing}
 use Rattle.answers.specs.declared.Reply.TheVariants.{Text, Malformed}
 

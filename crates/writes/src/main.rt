@@ -67,14 +67,7 @@ fn write_all<R: Read, W: Write>(input: &mut R, output: &mut W) -> io::Result<()>
     let mut words = [0u16; WORDS_SIZE];
     let mut queue = [0u8; QUEUE_SIZE];
     for _ in 0..u64::MAX {
-        if !one(
-            input,
-            output,
-            &mut sheet,
-            &mut text,
-            &mut words,
-            &mut queue,
-        )? {
+        if !one(input, output, &mut sheet, &mut text, &mut words, &mut queue)? {
             break;
         }
     }

@@ -5,7 +5,7 @@ use Rattle.forms.proofs.unpack.Given as goal
 abbrev pub invariant-loop-count : goal.invariant-loop-count
 invariant-loop-count l = record {
   inside : l.count ≤ length l.words;
-  place : l.at ≡ 3 + 2 * l.count
+  place : l.at ≡ 3 + 2 * l.count;
 }
 
 abbrev pub decreases-loop-count : goal.decreases-loop-count

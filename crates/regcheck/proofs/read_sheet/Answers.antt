@@ -29,5 +29,5 @@ loop-count-preserved g c =
     let joined = take_split from c.in-Ok.n c.loop-count.room (put_mid from room c.loop-count.room c.read.new.buf) (take-put_mid_below _ _ _ _ _ (le_refl _) within) in
     record {
       inside = search rules;
-      taken = subst (Consumes _ _) (ap (λ l. take from c.loop-count.room ++ l) (sym part) ∙ joined) (Consumes-trans _ _ _ _ _ c.loop-count.invariant.taken c.in-Ok.ensures.bytes.0)
+      taken = subst (Consumes _ _) (ap (λ l. take from c.loop-count.room ++ l) (sym part) ∙ joined) (Consumes-trans _ _ _ _ _ c.loop-count.invariant.taken c.in-Ok.ensures.bytes.0);
     }
