@@ -5,7 +5,7 @@
 -- or not, the report is of states that are the meet over all walks, it is well formed, and it has a line `N b` exactly where no
 -- allocation is missing and no walk comes to block b; a refusal's field is that of its line.
 use mathlib.Core.Path.{◌≡◌, refl, sym, ap, ◌∙◌, subst}
-use mathlib.Core.Logic.{◌↔◌, ◌⊎◌, inl, inr, ⊎_map, ⊎_elim}
+use mathlib.Core.Logic.{◌↔◌, ◌⊎◌, inl, inr, ⊎_map}
 use mathlib.Core.Bool.{Bool, true, false}
 use Prim.Native.Nat.{ℕ, ◌≤◌}
 use native.Mathlib.Omega.{arith}
@@ -28,8 +28,8 @@ use Rattle.paper.specs.declared.Refusal.{Refusal}
 use Rattle.paper.specs.declared.Answer.{Answer}
 use Rattle.paper.specs.declared.Answer.TheVariants.{Accepted, Faulty, Refused}
 use Rattle.walks.specs.Small.{Small}
-use Rattle.walks.specs.Unreached.{Unwalked}
-use Rattle.walks.specs.Theorems.{ReadSheet, read_sheet, acceptance, read_closed, read_typed, Acceptable, AcceptedBytes, acceptable, accepted_bytes, bytes_acceptance}
+use Rattle.walks.proofs.Unreached.{Unwalked}
+use Rattle.walks.proofs.Theorems.{ReadSheet, read_sheet, acceptance, read_closed, read_typed, Acceptable, AcceptedBytes, acceptable, accepted_bytes, bytes_acceptance}
 use Rattle.compare.specs.Spelled.{report_well_formed, unreached_line, named_exactly}
 use Rattle.columns.specs.Theorems.{Located, unlocated, read_located}
 use Rattle.checker.specs.Checked.{Checked, TextOutcome, Stated, verdict_of, rule_of, Exported}

@@ -17,7 +17,7 @@ use Rattle.paper.specs.declared.Rule.TheVariants.{House}
 use Rattle.fields.specs.Spelling.{number, digit_range, number_of_digits}
 use Rattle.walks.specs.Choices.{some_inj}
 use Rattle.walks.specs.Small.{Small}
-use Rattle.walks.specs.Theorems.{read_reported}
+use Rattle.walks.proofs.Theorems.{read_reported}
 use Rattle.checker.specs.Checked.{TextOutcome, text_outcome, Stated}
 use Rattle.checker.proofs.Texts.{text_left_by}
 

@@ -1,9 +1,9 @@
 -- A line by its letter; and of the sheet so far the counts alone matter.
 use mathlib.Core.Path.{◌≡◌, refl, sym, ap, ◌∙◌}
 use mathlib.Core.Bool.{Bool, true, false, not, ◌&&◌}
-use mathlib.Core.List.{List, [], ◌∷◌, ◌++◌}
+use mathlib.Core.List.{List, []}
 use mathlib.Core.Option.{Option, none, some}
-use Prim.Native.Nat.{ℕ, zero, suc, ◌+◌, ◌≤◌, ◌<◌}
+use Prim.Native.Nat.{ℕ, zero, suc, ◌+◌, ◌≤◌}
 use native.Mathlib.Omega.{arith}
 use borrow.Author.Tests.{ne_eqb}
 use lib.Dec.{eqb}
@@ -11,7 +11,7 @@ use lib.ListN.{length}
 use Rattle.paper.specs.Text.{Bytes, fields, number_of, Name, real, virtual, name_of}
 use Rattle.paper.specs.Sheet.{Operand, Sheet}
 use Rattle.paper.specs.Refusals.{Read, next, one_byte, allocation_of, name_beyond, reg_beyond, onward, passing, within, name_within, reg_within, new_name, new_reg, at_home, typed_passing, block_passing, change_passing, operands_passing, group_passing, operation_passing, safepoint_passing, field_by_letter, field_shown}
-use Rattle.fields.specs.Fields.{line_at, field_at, field_end, fields_behind}
+use Rattle.fields.specs.Fields.{line_at, field_at, fields_behind}
 use Rattle.fields.specs.Cursor.{fields_at}
 use Rattle.records.specs.Records.{Behind, Counted}
 use Rattle.records.specs.Parts.{counted}

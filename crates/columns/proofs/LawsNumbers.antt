@@ -1,17 +1,17 @@
 -- Numbers to the line's end, and at most eight of them.
-use mathlib.Core.Path.{◌≡◌, refl, sym, ap, ◌∙◌}
-use mathlib.Core.Bool.{Bool, true, false, cond, not, ◌&&◌}
+use mathlib.Core.Path.{◌≡◌, refl, sym, ◌∙◌}
+use mathlib.Core.Bool.{true, false, ◌&&◌}
 use mathlib.Core.List.{List, [], ◌∷◌}
-use mathlib.Core.Option.{Option, none, some, map}
+use mathlib.Core.Option.{Option, none, some}
 use Prim.Native.Nat.{ℕ, zero, suc, ◌+◌, ◌≤◌, ◌<◌, min}
 use native.Mathlib.Nat.{zero-min, min-zero, suc-min-suc, min-eq_left, min-eq_right}
 use native.Mathlib.Numerals.{add-one}
 use native.Mathlib.Omega.{arith}
-use lib.Dec.{eqb, leb, ltb}
+use lib.Dec.{eqb, ltb}
 use lib.ListN.{get_or, take}
 use Rattle.lists.specs.Split.{by_test}
 use Rattle.paper.specs.Text.{Bytes, line_feed, number_of}
-use Rattle.paper.specs.Refusals.{Read, next, onward, passing, within, rising, numbers_passing}
+use Rattle.paper.specs.Refusals.{next, onward, passing, within, rising, numbers_passing}
 use Rattle.fields.specs.Fields.{fields_behind}
 use Rattle.fields.specs.Cursor.{fields_behind_none}
 use Rattle.records.specs.Records.{Behind}

@@ -1,22 +1,20 @@
 -- Operands: those that stand before one are read again, and a group is counted operand by operand.
 use mathlib.Core.Path.{◌≡◌, refl, sym, ap, ◌∙◌, subst}
-use mathlib.Core.Bool.{Bool, true, false, cond, not, ◌&&◌, ◌||◌, and-true, and-false}
+use mathlib.Core.Bool.{Bool, true, false, not, ◌&&◌}
 use mathlib.Core.List.{List, [], ◌∷◌, ◌++◌, append-nil, append_assoc}
 use mathlib.Core.Option.{Option, none, some, map}
-use Prim.Native.Nat.{ℕ, zero, suc, ◌+◌, ◌-◌, ◌*◌, ◌≤◌, ◌<◌}
-use native.Mathlib.Numerals.{add-one}
+use Prim.Native.Nat.{ℕ, suc, ◌+◌, ◌-◌, ◌*◌, ◌≤◌, ◌<◌}
 use native.Mathlib.Omega.{arith}
-use borrow.Author.Tests.{eq-eqb, ne_eqb, lt-ltb, le-ltb, ltb-true, ltb-false, eqb-true, eqb-false}
+use borrow.Author.Tests.{eq-eqb, ne_eqb, lt-ltb, le-ltb, eqb-true}
 use lib.Dec.{eqb, leb, ltb}
 use Rattle.lists.specs.Split.{by_order, and_left, and_right}
 use Rattle.paper.specs.Text.{Bytes, number_of, Name, real, virtual, name_same, name_of}
-use Rattle.paper.specs.Sheet.{Operand, Sheet}
+use Rattle.paper.specs.Sheet.{Operand}
 use Rattle.paper.specs.Cells.{pick}
-use Rattle.paper.specs.Refusals.{Read, next, ◌>>=◌, allocation_of, operands_of, any, reg_beyond, is_reg, elsewhere, passing, within, name_within, reg_within, same_name, same_reg, new_name, new_reg, at_home, operands_passing, group_passing}
+use Rattle.paper.specs.Refusals.{Read, next, ◌>>=◌, allocation_of, operands_of, any, reg_beyond, is_reg, elsewhere, within, reg_within, same_name, same_reg, new_name, new_reg, at_home, operands_passing, group_passing}
 use Rattle.fields.specs.Fields.{fields_behind}
 use Rattle.records.specs.Records.{Behind, Next, NameBehind, AllocationBehind, name_of_code, register_of_code}
 use Rattle.records.specs.Parts.{put_first, NextOperand, operand_of_codes, counted}
-use Rattle.loaded.specs.declared.Counts.{Counts}
 use Rattle.fields.specs.declared.Number.{Number}
 use Rattle.fields.specs.declared.Number.TheVariants as read
 use Rattle.columns.specs.declared.Sought.{Sought}

@@ -1,18 +1,18 @@
 -- The field that is named shows the fault by itself: it depends on the fields up to it alone, and where nothing is wrong every field
 -- passes.
-use Rattle.std.specs.Prelude.{◌≡◌, Bool, cond, not, ◌&&◌, eqb, leb, ltb, length, take}
+use Rattle.std.specs.Prelude.{◌≡◌, Bool, cond, eqb, length, take}
 use Rattle.std.proofs.Math.Path.{refl}
-use Rattle.std.proofs.Common.{sym, ap, ◌∙◌, subst, arith, take_all}
+use Rattle.std.proofs.Common.{sym, ap, ◌∙◌, arith, take_all}
 use Rattle.std.proofs.Math.Bool.{true, false}
-use mathlib.Core.List.{List, [], ◌∷◌, ◌++◌}
-use Rattle.std.proofs.Math.Option.{Option, none, some, map}
-use Prim.Native.Nat.{ℕ, zero, suc, ◌+◌, ◌-◌, ◌≤◌, ◌<◌}
-use Rattle.lists.specs.Split.{by_test, by_order}
+use mathlib.Core.List.{List, [], ◌∷◌}
+use Rattle.std.proofs.Math.Option.{Option, none, some}
+use Prim.Native.Nat.{ℕ, zero, suc, ◌+◌, ◌-◌, ◌<◌}
+use Rattle.lists.specs.Split.{by_test}
 use Rattle.paper.specs.Text.{Bytes, number_of, name_of}
 use Rattle.paper.specs.Sheet.{Operand, Sheet}
 use Rattle.paper.specs.Limits.{max_succs}
 use Rattle.columns.specs.Bounds.{before_others, number_test}
-use Rattle.paper.specs.Refusals.{Read, next, allocation_of, onward, passing, within, rising, numbers_passing, function_passing, typed_passing, block_passing, pair_passing, change_passing, operands_passing, group_passing, operation_passing, safepoint_passing, field_by_letter}
+use Rattle.paper.specs.Refusals.{next, allocation_of, onward, passing, numbers_passing, function_passing, typed_passing, block_passing, pair_passing, change_passing, operands_passing, group_passing, operation_passing, safepoint_passing, field_by_letter}
 
 -- how far fields pass depends on those up to the first that does not
 pub record Steady (count : List Bytes → ℕ) : Type 0 where

@@ -1,6 +1,6 @@
 -- No more fields pass than there are, so a field that is named is at most one behind the line's last.
-use Rattle.std.specs.Prelude.{◌≡◌, Bool, ◌&&◌, eqb, get_or, take, drop}
-use Rattle.std.proofs.Common.{ap, ◌∙◌, length-drop}
+use Rattle.std.specs.Prelude.{Bool, ◌&&◌, eqb, get_or, take, drop}
+use Rattle.std.proofs.Common.{length-drop}
 use Rattle.std.proofs.Math.Bool.{true, false, cond}
 use mathlib.Core.List.{List, [], ◌∷◌}
 use Rattle.std.proofs.Math.Option.{Option, none, some, map}

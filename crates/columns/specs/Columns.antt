@@ -1,11 +1,11 @@
 -- What the search for a field tells of each part of a line: a field that passes comes with its value and the place behind it, and
 -- behind any other no field is counted.
-use Rattle.std.specs.Prelude.{◌≡◌, Bool, true, false, ◌&&◌, List, [], ℕ, ◌+◌, ◌-◌, ◌≤◌, ◌<◌, length, get_or}
+use Rattle.std.specs.Prelude.{◌≡◌, Bool, true, false, ◌&&◌, List, ℕ, ◌+◌, ◌-◌, ◌≤◌, ◌<◌, length, get_or}
 use Rattle.std.proofs.Math.Option.{Option, some}
 use Rattle.paper.specs.Text.{Bytes, line_feed, number_of, Name, name_of}
 use Rattle.paper.specs.Sheet.{Operand, Sheet}
 use Rattle.paper.specs.Limits.{max_sheet}
-use Rattle.paper.specs.Refusals.{Read, one_byte, allocation_of, operands_of, passing, within, name_within, reg_within, same_name, same_reg, new_name, new_reg, at_home, group_passing}
+use Rattle.paper.specs.Refusals.{one_byte, allocation_of, operands_of, passing, within, name_within, reg_within, same_name, same_reg, new_name, new_reg, at_home, group_passing}
 use Rattle.fields.specs.Fields.{field_at, fields_behind}
 use Rattle.fields.specs.declared.Number.{Number}
 use Rattle.fields.specs.declared.Number.TheVariants as read

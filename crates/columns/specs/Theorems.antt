@@ -1,7 +1,7 @@
 -- Document 02, A4, "the field .. that is the first to show the fault": the theorems on the field that a refusal names, over `paper`
 -- alone. `fs` are the fields of the line that is refused.
 use Rattle.std.proofs.Math.Path.{◌≡◌, sym, ap, subst}
-use Rattle.std.specs.Prelude.{refl, Bool, not, ◌&&◌, ◌||◌, ℕ, zero, suc, ◌+◌, ◌-◌, ◌≤◌, ◌<◌, eqb, leb, ltb, get_or}
+use Rattle.std.specs.Prelude.{refl, Bool, not, ℕ, zero, suc, ◌+◌, ◌-◌, ◌≤◌, eqb, leb, ltb, get_or}
 use Rattle.std.proofs.Common.{◌∙◌, true≢false, take_all, length-take-le}
 use Rattle.std.proofs.Math.Bool.{true, false, cond}
 use mathlib.Core.List.{List, [], ◌∷◌}
@@ -13,7 +13,7 @@ use Rattle.lists.specs.Split.{by_test, by_order, by_equal}
 use Rattle.paper.specs.Text.{Bytes, lines, fields, number_of, name_of}
 use Rattle.paper.specs.Sheet.{Sheet, spill, reload, move}
 use Rattle.paper.specs.Limits.{max_succs}
-use Rattle.paper.specs.Refusals.{Record, typed_record, block_record, Read, ◌>>=◌, next, one_byte, numbers_of, function_of, typed_of, block_of, two_numbers_of, change_of, operation_of, safepoint_of, by_letter, record_of, step_beyond, beyond_limit, out_of_order, real_elsewhere, types_differ, onward, passing, within, name_within, change_passing, field_by_letter, field_shown, names_field, field_of, so_far_of, loaded, refused, Lined, good, bad, read_line, read_end, carry_on, read_lines, no_text, read}
+use Rattle.paper.specs.Refusals.{Record, block_record, Read, next, one_byte, numbers_of, typed_of, block_of, change_of, by_letter, record_of, step_beyond, beyond_limit, out_of_order, real_elsewhere, types_differ, onward, passing, within, name_within, change_passing, field_by_letter, field_shown, names_field, field_of, so_far_of, loaded, refused, Lined, good, bad, read_line, read_end, carry_on, read_lines, no_text, read}
 use Rattle.paper.specs.declared.Refusal.{Refusal}
 use Rattle.columns.specs.Bounds.{by_letter_most}
 use Rattle.columns.specs.Agreeing.{letter_steady, same_first, not_begun}

@@ -1,22 +1,22 @@
 -- Of a well-formed line that a refusal's condition does not hold of, every field passes.
 use Rattle.std.proofs.Math.Path.{◌≡◌, refl, sym, ap, subst}
 use Rattle.std.proofs.Common.{◌∙◌, true≢false, arith, take_all}
-use Rattle.std.specs.Prelude.{Bool, cond, not, ◌&&◌, ◌||◌, eqb, ltb, take}
+use Rattle.std.specs.Prelude.{Bool, cond, ◌&&◌, ◌||◌, eqb, ltb}
 use Rattle.std.proofs.Math.Bool.{true, false}
 use mathlib.Core.List.{List, [], ◌∷◌, ◌++◌, append_assoc}
 use Rattle.std.proofs.Math.Option.{Option, none, some, map}
-use Prim.Native.Nat.{ℕ, zero, suc, ◌+◌, ◌-◌, ◌≤◌, ◌<◌}
+use Prim.Native.Nat.{ℕ, zero, suc, ◌≤◌}
 use Rattle.std.proofs.Math.Decide.{ℕ_discrete}
-use borrow.Author.Tests.{ne_eqb, leb-true, lt-ltb, le-ltb, ltb-false, leb-false, eqb-true, eqb-false, not-false}
+use borrow.Author.Tests.{ne_eqb, leb-true, lt-ltb, ltb-false, leb-false, eqb-true, eqb-false, not-false}
 use Rattle.std.proofs.Math.Dec.{leb}
 use Rattle.std.proofs.Math.ListN.{length}
 use Rattle.lists.specs.Split.{by_test, and_left, and_right, or_left, or_right}
 use Rattle.paper.specs.Text.{Bytes, number_of, Name, name_same, name_of}
 use Rattle.paper.specs.Cells.{pick}
-use Rattle.paper.specs.Sheet.{Operand, Step, spill, reload, move, change, operation, safepoint, Sheet}
+use Rattle.paper.specs.Sheet.{Operand, Step, change, operation, safepoint, Sheet}
 use Rattle.paper.specs.Limits.{max_regs, max_slots, max_vregs, max_blocks, max_succs, max_operands, max_inst}
 use Rattle.columns.specs.Bounds.{before_others}
-use Rattle.paper.specs.Refusals.{Record, function_record, typed_record, block_record, step_record, Read, ◌>>=◌, next, ended, numbers_of, function_of, typed_of, block_of, two_numbers_of, change_of, allocation_of, operands_of, counted_operands_of, operation_of, safepoint_of, any, name_beyond, reg_beyond, operand_beyond, step_beyond, beyond_limit, ascending_from, ascending, repeats, names, allocated, step_out_of_order, out_of_order, is_reg, elsewhere, real_elsewhere, types_differ, onward, passing, within, name_within, reg_within, rising, same_name, same_reg, new_name, new_reg, at_home, numbers_passing, function_passing, typed_passing, block_passing, pair_passing, change_passing, operands_passing, group_passing, operation_passing, safepoint_passing}
+use Rattle.paper.specs.Refusals.{Record, function_record, typed_record, step_record, Read, ◌>>=◌, next, ended, numbers_of, function_of, typed_of, block_of, two_numbers_of, change_of, allocation_of, operands_of, counted_operands_of, operation_of, safepoint_of, any, name_beyond, reg_beyond, operand_beyond, step_beyond, beyond_limit, ascending_from, ascending, repeats, names, allocated, step_out_of_order, out_of_order, is_reg, elsewhere, real_elsewhere, onward, passing, within, name_within, reg_within, rising, same_name, same_reg, new_name, new_reg, at_home, numbers_passing, function_passing, typed_passing, block_passing, pair_passing, change_passing, operands_passing, group_passing, operation_passing, safepoint_passing}
 
 -- the condition of the number does not hold
 pub record Clear (number : ℕ) (S : Sheet) (r : Record) : Type 0 where

@@ -1,21 +1,18 @@
 -- What the tests of a field, a line and a report decide.
-use mathlib.Core.Path.{◌≡◌, refl, sym, ap, ◌∙◌}
-use mathlib.Core.Bool.{Bool, true, false, cond, not, ◌&&◌, ◌||◌, true≢false, and-false}
-use mathlib.Core.List.{List, [], ◌∷◌, map}
-use mathlib.Core.Option.{Option, none, some}
-use Prim.Native.Nat.{ℕ, suc, ◌+◌, ◌≤◌, ◌<◌}
-use native.Mathlib.Nat.{add-suc, add-zero, not-suc-le-zero}
+use mathlib.Core.Path.{◌≡◌, refl, sym, ◌∙◌}
+use mathlib.Core.Bool.{Bool, true, false, and-false}
+use mathlib.Core.List.{[], ◌∷◌}
+use Prim.Native.Nat.{ℕ, ◌+◌, ◌≤◌, ◌<◌}
 use native.Mathlib.Numerals.{add-one}
 use native.Mathlib.Omega.{arith}
-use borrow.Author.Tests.{eq-eqb, ne_eqb, eqb-true}
+use borrow.Author.Tests.{eq-eqb, ne_eqb}
 use denote.Enum.Declared.{tag_of}
 use types.Run.{OneOf, miss}
-use lib.Dec.{eqb}
 use lib.ListN.{length, get_or, drop, length-drop, drop_of_length-le}
-use lib.Seq.{drop-cons, drop-length}
-use Rattle.lists.specs.Split.{by_test, and_left, and_right}
-use Rattle.paper.specs.Text.{Bytes, tab, line_feed, number_of, name_of}
-use Rattle.fields.specs.Fields.{ends_field, field_at, field_end, number_at, name_at, end_at, EndWithin, name_made}
+use lib.Seq.{drop-cons}
+use Rattle.lists.specs.Split.{by_test}
+use Rattle.paper.specs.Text.{Bytes, tab, line_feed}
+use Rattle.fields.specs.Fields.{ends_field, field_at, field_end, number_at, name_at, EndWithin}
 use Rattle.fields.specs.Cursor.{field_past, field_stop, field_more, field_end_more, field_end_none}
 use Rattle.fields.specs.Told.{number_says, number_refused, name_says, name_refused}
 use Rattle.fields.specs.declared.Number.TheVariants as number

@@ -1,30 +1,25 @@
 -- A line field by field, the header, and the report line by line: what is left decides.
 use mathlib.Core.Path.{◌≡◌, refl, sym, ap, ◌∙◌}
 use mathlib.Core.Bool.{Bool, true, false, cond, ◌&&◌, ◌||◌, true≢false, and-false}
-use mathlib.Core.List.{List, [], ◌∷◌, map}
+use mathlib.Core.List.{List, [], ◌∷◌}
 use mathlib.Core.Option.{Option, none, some}
 use Prim.Native.Nat.{ℕ, zero, suc, ◌+◌, ◌≤◌, ◌<◌}
 use native.Mathlib.Nat.{add-suc, add-zero}
 use native.Mathlib.Numerals.{add-one}
 use native.Mathlib.Omega.{arith}
 use borrow.Author.Tests.{eq-eqb, ne_eqb, eqb-true, eqb-false}
-use denote.Enum.Declared.{tag_of}
-use types.Run.{OneOf, miss}
 use lib.Dec.{eqb}
-use lib.ListN.{length, get_or, drop, length-drop, drop_of_length-le}
+use lib.ListN.{length, get_or, drop, drop_of_length-le}
 use lib.Seq.{drop-cons, get_or-drop, drop-drop}
 use Rattle.lists.specs.Split.{by_test, and_left, and_right}
 use Rattle.paper.specs.Text.{Bytes, tab, line_feed, onto_first, parts, fields, number_of, digits, digit_from}
 use Rattle.paper.specs.Refusals.{◌>>=◌, next, ended, any, empty}
 use Rattle.paper.specs.Report.{letter_R, rule_text}
-use Rattle.fields.specs.Fields.{until, ends_line, ends_field, field_at, field_end, line_at, line_end, fields_behind, number_told, number_at, EndWithin}
-use Rattle.fields.specs.Cursor.{until_more, fields_at, fields_behind_tab, fields_behind_none, line_end_tab, line_end_none}
+use Rattle.fields.specs.Fields.{until, ends_line, ends_field, field_at, field_end, line_at, line_end, fields_behind, number_told, number_at}
+use Rattle.fields.specs.Cursor.{fields_at, fields_behind_tab, fields_behind_none, line_end_tab, line_end_none}
 use Rattle.fields.specs.Told.{number_says, number_refused, next_says, next_refused}
 use Rattle.fields.specs.declared.Number as Number_read
 use Rattle.fields.specs.declared.Number.TheVariants as number
-use Rattle.fields.specs.declared.End as End
-use Rattle.fields.specs.declared.End.TheVariants as end
-use Rattle.fields.specs.contracts.End.{the_type}
 use Rattle.paper.specs.Comparison.{Shape, same_text, a_number, a_name, lettered, fits, fault_shape, fault_shapes, fault_shaped, unreached_shaped, past, a_rule, count_of, pieces, bad_from, bad_behind, bad_first, bad_line, parting, refused_or, compared}
 use Rattle.compare.specs.Places.{shape_of, shapes_of, codes_of_lines, place_told, field_place, behind_place, line_place, header_told, PlaceWithin}
 use Rattle.compare.specs.declared.Place.{Place}

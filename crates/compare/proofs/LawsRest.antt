@@ -1,13 +1,11 @@
 -- What is handed back is a part of the longer report.
-use mathlib.Core.Path.{◌≡◌, sym}
+use mathlib.Core.Path.{◌≡◌}
 use mathlib.Core.List.{List}
 use Prim.Native.Nat.{ℕ, ◌≤◌, ◌<◌}
 use native.Mathlib.Omega.{arith}
 use borrow.Author.Tests.{lt-ltb, le-ltb}
 use denote.Ref.{Bor}
-use lib.Dec.{ltb}
 use lib.ListN.{length}
-use Rattle.lists.specs.Split.{by_test}
 use Rattle.paper.specs.Text.{Bytes}
 use Rattle.paper.specs.Comparison.{compared, longer, rest_place, rest_of}
 use Rattle.compare.specs.Places.{ComparedWithin, PartOf, longer_lent, Handed}

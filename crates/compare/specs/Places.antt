@@ -1,14 +1,13 @@
 -- Lines and fields at a place of a report, and the codes by which the code's table says a field's shape.
 use Rattle.std.specs.Prelude.{Bool, true, false, cond, ◌&&◌, List, [], ◌∷◌, map, ℕ, ◌+◌, ◌≤◌, ◌<◌, eqb, ltb, length, get_or, drop, ◌≡◌}
-use Rattle.std.proofs.Math.Option.{Option, none, some}
+use Rattle.std.proofs.Math.Option.{none}
 use Rattle.std.specs.Borrow.{Bor}
 use Rattle.paper.specs.Text.{Bytes, tab, line_feed, fields, letter_r}
 use Rattle.paper.specs.Report.{letter_s}
-use Rattle.paper.specs.Refusals.{any}
 use Rattle.fields.specs.Fields.{field_at, field_end, line_at, line_end, number_told}
 use Rattle.fields.specs.declared.Number.{Number}
 use Rattle.fields.specs.declared.Number.TheVariants as number
-use Rattle.paper.specs.Comparison.{Shape, same_text, a_number, a_name, lettered, a_rule, fits, fault_shaped, count_of, compared, longer, rest_place, rest_of}
+use Rattle.paper.specs.Comparison.{Shape, same_text, a_number, a_name, lettered, count_of, compared, longer, rest_place, rest_of}
 use Rattle.compare.specs.declared.Place.{Place}
 use Rattle.compare.specs.declared.Place.TheVariants.{At, Bad}
 use Rattle.paper.specs.declared.Compared.{Compared}

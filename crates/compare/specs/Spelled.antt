@@ -2,17 +2,16 @@
 -- whatever is answered to a sheet that is read, under either rule, is a well-formed report. And the text `N b` is one of its lines
 -- exactly when no allocation is missing and no walk comes to block b.
 use Rattle.std.proofs.Math.Path.{◌≡◌, sym, subst}
-use Rattle.std.specs.Prelude.{refl, Bool, true, false, cond, not, ◌&&◌, ◌↔◌, ℕ, suc, ◌+◌, eqb, length}
+use Rattle.std.specs.Prelude.{refl, true, false, cond, not, ◌↔◌, ℕ, suc, ◌+◌, eqb, length}
 use Rattle.std.proofs.Common.{ap, ◌∙◌, true≢false, add-zero, eq-eqb, ne_eqb}
 use mathlib.Core.List.{List, [], ◌∷◌, ◌++◌, append_assoc, append-nil, nil≢cons}
 use Rattle.std.proofs.Math.Option.{Option, none, some}
 use native.Mathlib.Omega.{arith}
-use Rattle.std.proofs.lemmas.Bool.{not-true}
 use Rattle.lists.specs.Split.{by_test, and_left, and_right}
-use Rattle.paper.specs.Text.{Bytes, tab, line_feed, parts, onto_first, fields, is_digit, all_digits, number_of, digits, digit_from, Name, real, virtual, name_text, name_of}
+use Rattle.paper.specs.Text.{Bytes, tab, line_feed, parts, onto_first, fields, is_digit, all_digits, number_of, digits, digit_from, Name, real, virtual, name_text}
 use Rattle.paper.specs.Steps.{Fault, missing_allocation_for_reg, unknown_value_in_reg, incorrect_value_in_reg, unknown_value_in_slot, incorrect_value_in_slot, stack_map_specifies_non_ref_slot, stack_map_specifies_undefined_slot}
 use Rattle.paper.specs.Sheet.{Sheet}
-use Rattle.paper.specs.Refusals.{◌>>=◌, next, ended, any, empty, loaded, read}
+use Rattle.paper.specs.Refusals.{next, ended, any, empty, loaded, read}
 use Rattle.paper.specs.Report.{Line, Entry, fault_entry, unreached_entry, entries, faults_in, kind_of, reg_text, slot_text, fault_fields, behind_tabs, line_text, unreached_text, entry_text, lines_text, rule_text, header_text, report_text, letter_E, letter_N, letter_R}
 use Rattle.paper.specs.Answer.{said_by, said_of, said_after, answer, written}
 use Rattle.paper.specs.Walks.{In, here, there}
@@ -23,9 +22,9 @@ use Rattle.fields.specs.Fields.{ends_field, name_made}
 use Rattle.fields.specs.Spelling.{number, digit_range, number_of_digits, name_of_text}
 use Rattle.fields.specs.Told.{unbroken}
 use Rattle.walks.specs.Choices.{some_inj, in_nil}
-use Rattle.walks.specs.Unreached.{Unwalked}
+use Rattle.walks.proofs.Unreached.{Unwalked}
 use Rattle.walks.specs.Small.{Small, SmallName, SmallReg, SmallFault, SmallLine, SmallEntries, SmallReport}
-use Rattle.walks.specs.Theorems.{read_reported, ReadSheet, read_sheet}
+use Rattle.walks.proofs.Theorems.{read_reported, ReadSheet, read_sheet}
 use Rattle.compare.specs.Pieces.{pieces_none, pieces_feed, pieces_more, pieces_some, not_empty}
 
 -- fields without a tab or a line feed

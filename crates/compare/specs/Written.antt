@@ -1,6 +1,6 @@
 -- What the program writes of two reports: `D 0` where they are equal; `D line` where they part, and behind that line's LF the rest of
 -- the longer one; `M side line` where one is malformed.
-use Rattle.std.specs.Prelude.{◌≡◌, Bool, cond, ◌||◌, List, [], ◌∷◌, ◌++◌, ℕ, ◌+◌, ◌≤◌, ltb, length}
+use Rattle.std.specs.Prelude.{◌≡◌, Bool, cond, ◌||◌, List, [], ◌∷◌, ◌++◌, ℕ, ◌≤◌, ltb, length}
 use Rattle.paper.specs.Text.{Bytes, digits}
 use Rattle.paper.specs.Report.{behind_tabs}
 use Rattle.paper.specs.Answer.{laid}

@@ -1,7 +1,7 @@
 -- A block that is being checked: the state before a place, and what a pass leaves of the faults up to there; a block that is not; all
 -- blocks, one after the other.
 use mathlib.Core.Path.{◌≡◌, refl, sym, ap, ◌∙◌}
-use mathlib.Core.List.{List, [], ◌∷◌, ◌++◌, map, map-append, append-nil, append-eq-nil_iff}
+use mathlib.Core.List.{List, [], ◌∷◌, map, map-append, append-nil, append-eq-nil_iff}
 use mathlib.Core.Option.{Option, none, some}
 use Prim.Native.Nat.{ℕ, zero, suc, ◌+◌, ◌*◌, ◌≤◌, ◌<◌}
 use native.Mathlib.Numerals.{add-one}

@@ -1,6 +1,6 @@
 -- What a pass leaves of lines one after the other, and of one step.
 use mathlib.Core.Path.{◌≡◌, refl, sym, ◌∙◌}
-use mathlib.Core.List.{List, [], ◌∷◌, ◌++◌, map, append-nil, append_assoc}
+use mathlib.Core.List.{List, [], ◌∷◌, ◌++◌, append-nil, append_assoc}
 use mathlib.Core.Option.{Option, none, some}
 use Prim.Native.Nat.{ℕ, ◌+◌}
 use native.Mathlib.Omega.{arith}
@@ -8,7 +8,7 @@ use lib.ListN.{length, length-append}
 use Rattle.lists.specs.Sets.{Wrote, then}
 use Rattle.paper.specs.Steps.{Fault}
 use Rattle.paper.specs.Steps as fault
-use Rattle.paper.specs.Report.{Entry, fault_entry, unreached_entry, faults_in, kind_of, line_text, unreached_text, entry_text, lines_text, line_of}
+use Rattle.paper.specs.Report.{Entry, unreached_entry, faults_in, kind_of, line_text, unreached_text, entry_text, lines_text, line_of}
 use Rattle.walks.specs.Entries.{faults_append}
 use Rattle.report.specs.Lines.{fields_line}
 use Rattle.report.specs.declared.Position.{Position}

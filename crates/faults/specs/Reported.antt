@@ -8,7 +8,7 @@ use Rattle.paper.specs.Report.{Entry, unreached_entry, by_block, missing_allocat
 use Rattle.paper.specs.Answer.{said_of, answer_of, report_of}
 use Rattle.paper.specs.declared.Rule.{Rule}
 use Rattle.paper.specs.declared.Answer.{Answer}
-use Rattle.layout.specs.Layout.{regs_word, slots_word, blocks_word, state_at, mark_at, run_words}
+use Rattle.layout.specs.Layout.{blocks_word, state_at, mark_at, run_words}
 use Rattle.cells.specs.States.{stored_state}
 use Rattle.loaded.specs.Loaded.{sheet_of, Loaded, counts_in}
 use Rattle.tables.specs.Table.{mark_of}

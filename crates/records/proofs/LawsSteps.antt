@@ -1,14 +1,14 @@
 -- The lines `C`, `O` and `P`: their fields one after the other, and what is tested of them.
 use mathlib.Core.Path.{◌≡◌, refl, sym, ◌∙◌}
 use mathlib.Core.Bool.{Bool, false, not, ◌||◌, beq}
-use mathlib.Core.List.{List, [], ◌∷◌}
+use mathlib.Core.List.{List}
 use mathlib.Core.Option.{Option, none, some}
-use Prim.Native.Nat.{ℕ, ◌^◌, ◌≤◌, ◌<◌}
+use Prim.Native.Nat.{ℕ, ◌≤◌, ◌<◌}
 use borrow.Author.Tests.{leb-false, ltb-false}
 use native.Mathlib.Omega.{arith}
 use lib.Pow.{pow_mono}
 use lib.Dec.{leb, ltb}
-use lib.ListN.{length, get_or}
+use lib.ListN.{get_or}
 use Rattle.lists.specs.Split.{or_left, or_right}
 use Rattle.paper.specs.Text.{Bytes, line_feed, number_of, Name, name_of}
 use Rattle.paper.specs.Sheet.{Sheet, change, operation, safepoint}

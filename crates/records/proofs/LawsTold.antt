@@ -1,9 +1,9 @@
 -- What is told of a line: of one whose form is bad, of one that is judged; and the lines of numbers alone.
 use mathlib.Core.Path.{◌≡◌, refl, sym, ap, ◌∙◌}
 use mathlib.Core.Bool.{Bool, true, false, not, ◌||◌}
-use mathlib.Core.List.{List, [], ◌∷◌}
+use mathlib.Core.List.{List, ◌∷◌}
 use mathlib.Core.Option.{Option, none, some}
-use Prim.Native.Nat.{ℕ, ◌≤◌, ◌<◌}
+use Prim.Native.Nat.{ℕ, ◌≤◌}
 use native.Mathlib.Omega.{arith}
 use borrow.Author.Tests.{le-leb, lt-leb, le-ltb, lt-ltb, leb-false, ltb-false}
 use lib.Dec.{eqb, leb, ltb}
@@ -13,7 +13,7 @@ use Rattle.lists.specs.Split.{by_test, by_order, or_left, or_right}
 use Rattle.paper.specs.Limits.{max_regs, max_slots, max_vregs, max_blocks}
 use Rattle.paper.specs.Text.{Bytes}
 use Rattle.paper.specs.Sheet.{Step, Sheet}
-use Rattle.paper.specs.Refusals.{Record, function_record, typed_record, block_record, step_record, function_of, typed_of, block_of, two_numbers_of, out_of_place, beyond_limit, out_of_order, real_elsewhere, types_differ, step_too_many, any, so_far_of, Condition, first_holding, conditions}
+use Rattle.paper.specs.Refusals.{Record, function_record, typed_record, block_record, step_record, function_of, typed_of, block_of, two_numbers_of, beyond_limit, out_of_order, real_elsewhere, types_differ, any, so_far_of, Condition, first_holding, conditions}
 use Rattle.fields.specs.Fields.{fields_behind}
 use Rattle.loaded.specs.declared.Counts.{Counts}
 use Rattle.records.specs.declared.Place.{Place}

@@ -16,7 +16,7 @@ use Rattle.paper.specs.declared.Rule.{Rule}
 use Rattle.layout.specs.Layout.{blocks_word}
 use Rattle.walks.specs.Running.{run_suc}
 use Rattle.walks.specs.Passing.{PassedOn}
-use Rattle.walks.specs.Loop.{Standing, standing_room, standing_step, standing_begin, stopped_early}
+use Rattle.walks.proofs.Loop.{Standing, standing_room, standing_step, standing_begin, stopped_early}
 use Rattle.loaded.specs.Loaded.{sheet_of, Loaded}
 use Rattle.tables.specs.Held.{RunKept, held_state}
 use Rattle.runs.specs.Queue.{held, held_from}

@@ -22,7 +22,7 @@ use Rattle.paper.specs.declared.Rule.TheVariants.{Old, House}
 use Rattle.layout.specs.Layout.{blocks_word, opened_word, succ_base, state_base, all_words, mark_at, row_widths, state_words}
 use Rattle.walks.specs.Passing.{PassedOn, Passing, passing_done, spread_covered}
 use Rattle.walks.specs.Running.{step_visit, spread_last}
-use Rattle.walks.specs.Loop.{standing_room, standing_below, standing_visited, standing_inside}
+use Rattle.walks.proofs.Loop.{standing_room, standing_below, standing_visited, standing_inside}
 use Rattle.cells.specs.States.{state_of, Narrow}
 use Rattle.loaded.specs.Loaded.{succ_total, sheet_of, BlockBounds}
 use Rattle.loaded.specs.Blocks.{succs_in_words}

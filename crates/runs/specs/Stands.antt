@@ -1,6 +1,6 @@
 -- The run that stands in words and queue, and what the code does to it: it begins, a state is pushed, a block is visited, and in
 -- the end the analysis of the paper is there.
-use Rattle.std.specs.Prelude.{◌≡◌, List, [], ◌∷◌, ℕ, ◌<◌, length, get_or}
+use Rattle.std.specs.Prelude.{◌≡◌, List, [], ℕ, ◌<◌, length, get_or}
 use Rattle.std.proofs.Common.{arith}
 use Rattle.paper.specs.Sheet.{Sheet}
 use Rattle.paper.specs.Steps.{State, counts_of}
@@ -9,7 +9,7 @@ use Rattle.paper.specs.Report.{missing_allocations}
 use Rattle.paper.specs.declared.Rule.{Rule}
 use Rattle.layout.specs.Layout.{regs_word, slots_word, blocks_word, state_at, mark_at}
 use Rattle.walks.specs.Bounds.{Closed}
-use Rattle.walks.specs.Loop.{Standing}
+use Rattle.walks.proofs.Loop.{Standing}
 use Rattle.cells.specs.States.{stored_state}
 use Rattle.loaded.specs.Loaded.{sheet_of, Loaded, counts_in}
 use Rattle.tables.specs.Held.{RunKept, held_state}

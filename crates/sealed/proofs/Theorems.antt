@@ -20,7 +20,7 @@ use Rattle.paper.specs.declared.Refusal.{Refusal}
 use Rattle.paper.specs.declared.Answer.{Answer}
 use Rattle.paper.specs.declared.Answer.TheVariants.{Accepted, Faulty, Refused}
 use Rattle.paper.specs.declared.Seal.TheVariants.{Good}
-use Rattle.walks.specs.Theorems.{Acceptable, AcceptedBytes, acceptable, accepted_bytes, bytes_acceptance}
+use Rattle.walks.proofs.Theorems.{Acceptable, AcceptedBytes, acceptable, accepted_bytes, bytes_acceptance}
 use Rattle.checker.specs.declared.Verdict.{Verdict}
 use Rattle.seal.specs.Theorems.{report_good}
 use Rattle.sealed.specs.Sealed.{CheckedSealed, ExportedSealed}

@@ -1,7 +1,7 @@
 -- A line by its letter: the fields behind the letter are read by the letter's own reader.
 use mathlib.Core.Path.{◌≡◌, refl, sym, ◌∙◌}
 use mathlib.Core.Bool.{false, true≢false}
-use mathlib.Core.List.{List, [], ◌∷◌}
+use mathlib.Core.List.{List}
 use mathlib.Core.Option.{Option, none}
 use Prim.Native.Nat.{ℕ, ◌+◌, ◌<◌}
 use native.Mathlib.Omega.{arith}
@@ -12,8 +12,7 @@ use Rattle.lists.specs.Split.{by_test}
 use Rattle.paper.specs.Text.{Bytes, tab, fields}
 use Rattle.paper.specs.Refusals.{Record, one_byte, by_letter, record_of, read_record}
 use Rattle.fields.specs.Fields.{ends_line, ends_field, line_at, field_at, line_end, field_end, fields_behind}
-use Rattle.fields.specs.Cursor.{until_more, fields_at, field_ended}
-use Rattle.records.specs.Records.{Behind}
+use Rattle.fields.specs.Cursor.{until_more, fields_at}
 use Rattle.sheet.specs.Reading.{SheetText, lined_of, LineRead}
 use Rattle.sheet.specs.declared.Lined as Lined
 use Rattle.sheet.specs.declared.Lined.TheVariants as lined

@@ -1,12 +1,11 @@
 -- The records of a sheet, one after another: a record more at the end of the sheet so far is a record more at the end of its text, and all
 -- records of a sheet, added one by one, give that sheet.
-use Rattle.std.specs.Prelude.{◌≡◌, refl, Bool, true, false, cond, not, ℕ}
+use Rattle.std.specs.Prelude.{◌≡◌, refl, true, false, ℕ}
 use Rattle.std.proofs.Common.{sym, ◌∙◌, true≢false}
 use Rattle.std.proofs.Math.Path.{ap}
 use mathlib.Core.List.{List, [], ◌∷◌, ◌++◌, map, append-nil, append_assoc}
 use Rattle.std.proofs.Math.Option.{Option, none, some}
 use Rattle.std.proofs.lemmas.Bool.{not-false}
-use Rattle.paper.specs.Text.{Bytes}
 use Rattle.paper.specs.Sheet.{Step, Block, Sheet}
 use Rattle.paper.specs.Refusals.{Record, function_record, typed_record, block_record, step_record, empty, out_of_place, so_far_of, add_step, add_record}
 use Rattle.paper.specs.Writing.{record_text, records_text, block_records, records_of}

@@ -1,5 +1,5 @@
 -- A text and its lines, a line and its fields: put together again they are what was parted, and what was put together is parted so.
-use Rattle.std.specs.Prelude.{◌≡◌, refl, Bool, true, false, cond, not, List, [], ◌∷◌, ◌++◌, ℕ, suc, ◌+◌, ◌-◌, ◌<◌, eqb, length, get_or}
+use Rattle.std.specs.Prelude.{◌≡◌, refl, true, false, not, List, [], ◌∷◌, ◌++◌, ℕ, suc, ◌-◌, ◌<◌, eqb, length, get_or}
 use Rattle.std.proofs.Common.{sym, ap, ◌∙◌, true≢false, append_assoc, arith, eqb-true, length-append}
 use Rattle.lists.specs.Split.{by_test, and_right}
 use Rattle.paper.specs.Text.{Bytes, tab, line_feed, onto_first, parts, lines, fields}

@@ -1,15 +1,14 @@
 -- What is written of a record whose numbers have at most five digits is one line, and is read as that record or, with a ninth
 -- successor, not at all.
-use Rattle.std.specs.Prelude.{◌≡◌, refl, Bool, true, false, cond, List, [], ◌∷◌, ◌++◌, map, ℕ, suc, zero, ◌≤◌, ◌<◌, eqb, leb, length}
-use Rattle.std.proofs.Common.{sym, ap, ◌∙◌, append-nil, arith, ne_eqb}
+use Rattle.std.specs.Prelude.{◌≡◌, refl, Bool, true, false, cond, List, [], ◌∷◌, ◌++◌, map, ℕ, ◌<◌, eqb, leb, length}
+use Rattle.std.proofs.Common.{ap, ◌∙◌, append-nil, arith, ne_eqb}
 use Rattle.std.proofs.Math.Option.{Option, none, some}
-use Rattle.lists.specs.Split.{by_test, and_left, and_right}
+use Rattle.lists.specs.Split.{and_left, and_right}
 use Rattle.lists.specs.Regions.{All}
-use Rattle.paper.specs.Text.{Bytes, hyphen, lines, fields, is_digit, all_digits, number_of, digits, Name, real, virtual, name_of, name_text, parts}
+use Rattle.paper.specs.Text.{Bytes, hyphen, lines, fields, is_digit, all_digits, digits, Name, real, virtual, name_of, name_text, parts}
 use Rattle.paper.specs.Sheet.{Operand, Step, spill, reload, move, change, operation, safepoint, Sheet}
 use Rattle.paper.specs.Limits.{max_succs}
-use Rattle.paper.specs.Refusals.{Record, function_record, typed_record, block_record, step_record, Read, ◌>>=◌, next, ended, one_byte, numbers_of, function_of, typed_of, block_of, two_numbers_of, change_of, allocation_of, operands_of, counted_operands_of, operation_of, safepoint_of, by_letter, record_of}
-use Rattle.paper.specs.Report.{nothing, behind_tabs}
+use Rattle.paper.specs.Refusals.{Record, function_record, typed_record, block_record, step_record, next, ended, one_byte, numbers_of, function_of, typed_of, block_of, two_numbers_of, change_of, allocation_of, operands_of, counted_operands_of, operation_of, safepoint_of, by_letter, record_of}
 use Rattle.paper.specs.Writing.{allocation_text, operand_texts, letter_of, texts_of, record_text, records_text, records_of}
 use Rattle.fields.specs.Fields.{ends_field, name_made}
 use Rattle.fields.specs.Spelling.{number, digit_range, number_of_digits, name_of_text}

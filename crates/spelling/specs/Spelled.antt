@@ -1,17 +1,16 @@
 -- A record has one line: fields that are read as a record are that record's own texts, and a record's texts, where its numbers have at
 -- most five digits, are read as that record or not at all (a ninth successor).
-use Rattle.std.specs.Prelude.{◌≡◌, Bool, true, false, cond, ℕ, suc, zero, ◌+◌, ◌≤◌, ◌<◌, eqb, leb, length}
+use Rattle.std.specs.Prelude.{◌≡◌, Bool, true, false, cond, ℕ, suc, zero, eqb, leb, length}
 use Rattle.std.proofs.Math.Path.{refl}
 use Rattle.std.proofs.Common.{sym, ap, ap₂, ◌∙◌, subst, arith, eqb-true}
 use mathlib.Core.List.{List, [], ◌∷◌, ◌++◌, map, append-nil}
 use Rattle.std.proofs.Math.Option
 use Rattle.std.proofs.Math.Option.{Option, none, some}
 use Rattle.lists.specs.Split.{by_test}
-use Rattle.paper.specs.Text.{Bytes, hyphen, number_of, digits, Name, real, virtual, name_of, name_text}
-use Rattle.paper.specs.Sheet.{Operand, Step, spill, reload, move, change, operation, safepoint}
+use Rattle.paper.specs.Text.{Bytes, hyphen, number_of, digits, Name, name_of, name_text}
+use Rattle.paper.specs.Sheet.{Operand, Step, spill, reload, move, safepoint}
 use Rattle.paper.specs.Limits.{max_succs}
-use Rattle.paper.specs.Refusals.{Record, function_record, typed_record, block_record, step_record, Read, ◌>>=◌, next, ended, one_byte, numbers_of, function_of, typed_of, block_of, two_numbers_of, change_of, allocation_of, operands_of, counted_operands_of, operation_of, safepoint_of, by_letter, record_of}
-use Rattle.paper.specs.Report.{nothing, behind_tabs}
+use Rattle.paper.specs.Refusals.{Record, block_record, step_record, Read, ◌>>=◌, next, ended, one_byte, numbers_of, function_of, typed_of, block_of, two_numbers_of, change_of, allocation_of, operands_of, counted_operands_of, operation_of, safepoint_of, by_letter, record_of}
 use Rattle.paper.specs.Writing.{allocation_text, operand_texts, letter_of, texts_of, record_text}
 use Rattle.fields.specs.Spelling.{digits_of_number, text_of_name}
 use Rattle.spelling.specs.Parted.{closed_line}

@@ -1,11 +1,11 @@
 -- "A sheet has one spelling" (document 02, A6), over the definitions alone. Bytes that are read are the text of what they load as; so two
 -- sheets that load alike are the same bytes, and the text of whatever some sheet gives is read as it again. And the other way: where the
 -- text of a sheet whose numbers have at most five digits is read, it is read as that sheet.
-use Rattle.std.specs.Prelude.{◌≡◌, refl, Bool, true, false, cond, not, ◌||◌, List, [], ◌∷◌, ◌++◌, map, ℕ, suc, ◌-◌, ◌<◌, eqb, ltb, length, get_or, take, drop}
-use Rattle.std.proofs.Common.{sym, ap, ◌∙◌, subst, true≢false, append-nil, append_assoc, arith, eqb-true, take_at}
+use Rattle.std.specs.Prelude.{◌≡◌, refl, Bool, true, false, cond, List, [], ◌∷◌, ◌++◌, map, ℕ, suc, ltb, length, take, drop}
+use Rattle.std.proofs.Common.{sym, ap, ◌∙◌, true≢false, append-nil, append_assoc, arith, eqb-true, take_at}
 use Rattle.std.proofs.Math.Option.{Option, none, some}
 use Rattle.std.proofs.lemmas.Bool.{not-false}
-use Rattle.lists.specs.Split.{or_left, or_right}
+use Rattle.lists.specs.Split.{or_right}
 use Rattle.paper.specs.Text.{Bytes, line_feed, lines, fields}
 use Rattle.paper.specs.Sheet.{Sheet}
 use Rattle.paper.specs.Limits.{max_sheet}
@@ -15,7 +15,7 @@ use Rattle.paper.specs.Answer.{laid}
 use Rattle.paper.specs.declared.Written.{Written}
 use Rattle.paper.specs.declared.Written.TheVariants.{Text, NoSheet, NoRoom}
 use Rattle.paper.specs.declared.Refusal.{Refusal}
-use Rattle.spelling.specs.Parted.{closed_line, closed_lines, joined_fields, joined_lines}
+use Rattle.spelling.specs.Parted.{closed_lines, joined_fields, joined_lines}
 use Rattle.spelling.specs.Spelled.{record_spelled}
 use Rattle.spelling.specs.Short.{ShortRecords, ShortSheet, line_of, lines_written, line_again}
 use Rattle.spelling.specs.Added.{text_append, so_far_records, record_more, added, all_added}

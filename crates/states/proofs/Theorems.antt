@@ -17,7 +17,7 @@ use Rattle.paper.specs.Answer.{Lent, too_short}
 use Rattle.paper.specs.Walks.{HouseWalk, MeetOverWalks}
 use Rattle.paper.specs.declared.Rule.TheVariants.{House}
 use Rattle.walks.specs.Choices.{some_not_none}
-use Rattle.walks.specs.Theorems.{read_sheet, meet_unique}
+use Rattle.walks.proofs.Theorems.{read_sheet, meet_unique}
 use Rattle.checker.specs.Checked.{Stated}
 use Rattle.checker.proofs.Texts.{text_left_by}
 use Rattle.states.specs.Stated.{states_size}

@@ -7,7 +7,7 @@ use Rattle.paper.specs.Limits.{max_regs, max_slots, max_blocks, report_size}
 use Rattle.paper.specs.Runs.{analysis, checked_from}
 use Rattle.paper.specs.Answer.{answer, written, laid}
 use Rattle.paper.specs.declared.Rule.{Rule}
-use Rattle.layout.specs.Layout.{regs_word, slots_word, blocks_word, state_at, mark_at, run_words}
+use Rattle.layout.specs.Layout.{blocks_word, state_at, mark_at, run_words}
 use Rattle.cells.specs.Packed.{cell_of}
 use Rattle.cells.specs.States.{stored_state}
 use Rattle.loaded.specs.Loaded.{sheet_of, Loaded, counts_in}

@@ -14,9 +14,6 @@ pub mod Effects
 pub mod Fits
 pub mod Bounds
 pub mod Spelled
-pub mod Loop
-pub mod Ended
-pub mod House
 -- checks, walks and programs
 pub mod Checks
 pub mod Holding
@@ -26,9 +23,6 @@ pub mod Above
 pub mod Witness
 pub mod Entries
 pub mod Lines
-pub mod Acceptance
-pub mod Faults
-pub mod Unreached
 pub mod Former
 -- sheets that are read
 pub mod Small
@@ -39,7 +33,3 @@ pub mod Computed
 pub mod OldRule
 pub mod Needed
 pub mod Slips
--- the statements together
-pub mod Theorems
--- and a sheet to which they apply
-pub mod Example

@@ -2,7 +2,7 @@
 -- though Conflicted is below: its effect does not distribute over the meet. So the order in which blocks are served shows in the
 -- states, and in the report.
 use Rattle.std.specs.Prelude.{◌≡◌, refl, Bool, true, false, List, [], ◌∷◌, ℕ, suc, zero, ◌<◌}
-use Rattle.std.proofs.Common.{ap, arith}
+use Rattle.std.proofs.Common.{arith}
 use Rattle.std.proofs.Math.Option.{Option, none, some}
 use Rattle.paper.specs.Text.{Name, virtual as v}
 use Rattle.paper.specs.Sheet.{Step, spill, change, safepoint, Sheet, succs_of}
@@ -73,7 +73,7 @@ pub another_order : end_of (in_order (flow Old crossing) (0 ∷ 1 ∷ 3 ∷ 2 �
 unfolding computed end_of found_in
 another_order = refl
 
-crossing_closed : Closed crossing
+pub crossing_closed : Closed crossing
 crossing_closed = record { entry_in = omega arith; succs_in = inside }
   where
     inside : (b s : ℕ) → In s (succs_of crossing b) → s < 5
@@ -94,14 +94,4 @@ old_does_not_distribute h =
     let ref : Name → Bool = λ n. true in
     let e = h ref ownership (slot_holds (named (v 0) true)) (slot_holds (named (v 1) true)) in
     let z : ◌≡◌ {A = ℕ} 0 1 = cc (old_effect_of_meet ref, old_meet_of_effects ref) in
-    omega arith
-
-pub old_order_shows : ¬ ((S : Sheet) → Closed S → (order : List ℕ) → (in_order (flow Old S) order (begin Old S)).queue ≡ []
-    → (b : ℕ) → (in_order (flow Old S) order (begin Old S)).table b ≡ (analysis Old S).table b)
-unfolding end_of
-old_order_shows h =
-    let e = h crossing crossing_closed (0 ∷ 1 ∷ 3 ∷ 2 ∷ 4 ∷ 3 ∷ 4 ∷ []) (ap (λ (e : End). e.waiting) another_order) 4 in
-    let f = ap (λ (e : End). e.last) another_order in
-    let g = ap (λ (e : End). e.last) first_in_first_out in
-    let z : ◌≡◌ {A = ℕ} 0 1 = cc in
     omega arith

@@ -1,10 +1,9 @@
 -- A loop that writes: whoever writes what is left behind what stands has written the whole. It holds at the start, with each part that is
 -- written there is less left, and where nothing is left the whole stands.
-use mathlib.Core.Path.{◌≡◌, refl, sym}
-use mathlib.Core.List.{List, [], ◌∷◌, ◌++◌}
-use Prim.Native.Nat.{ℕ, ◌+◌, ◌<◌}
+use mathlib.Core.Path.{◌≡◌, refl}
+use mathlib.Core.List.{List, [], ◌++◌}
+use Prim.Native.Nat.{ℕ, ◌<◌}
 use native.Mathlib.Omega.{arith}
-use lib.ListN.{length}
 use Rattle.lists.specs.Sets.{Wrote, then}
 use Rattle.paper.specs.Limits.{max_sheet}
 use Rattle.writer.specs.Filled.{Filled, whole, beyond, filled_then}

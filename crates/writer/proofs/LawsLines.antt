@@ -1,33 +1,30 @@
 -- The parts of the text, one by one: what is left of a list behind its next element, and how a line's parts make the line.
-use mathlib.Core.Path.{◌≡◌, refl, sym, ap, ◌∙◌}
-use mathlib.Core.Bool.{Bool, true, false, cond, ◌&&◌}
-use mathlib.Core.List.{List, [], ◌∷◌, ◌++◌, map, append-nil, append_assoc}
-use Prim.Native.Nat.{ℕ, suc, zero, ◌+◌, ◌-◌, ◌*◌, ◌/◌, ◌%◌, ◌^◌, ◌≤◌, ◌<◌}
+use mathlib.Core.Path.{◌≡◌, refl, sym, ap}
+use mathlib.Core.Bool.{Bool, true, false, cond}
+use mathlib.Core.List.{List, [], ◌∷◌, ◌++◌, map, append_assoc}
+use Prim.Native.Nat.{ℕ, suc, zero, ◌+◌, ◌-◌, ◌/◌, ◌%◌, ◌^◌, ◌≤◌, ◌<◌}
 use native.Mathlib.Nat.{zero-add}
 use native.Mathlib.Numerals.{add-one}
 use native.Mathlib.Omega.{arith}
-use borrow.Author.Tests.{le-leb, lt-leb, leb-true, ne_eqb, eq-eqb}
-use lib.Dec.{eqb, leb}
+use borrow.Author.Tests.{le-leb, lt-leb}
+use lib.Dec.{eqb}
 use lib.ListN.{length, get_or, drop}
 use lib.Seq.{drop-cons, drop-length}
 use lib.Count.{count_trailing_zeros}
-use Rattle.lists.specs.Split.{and_left, and_right}
 use Rattle.lists.specs.Region.{region}
 use Rattle.lists.specs.Regions.{region_none, region_cons}
 use Rattle.lists.specs.Bits.{set_bits, bits_from, lowest, no_bits}
-use Rattle.paper.specs.Text.{Bytes, tab, line_feed, digits, name_text}
-use Rattle.paper.specs.Sheet.{Operand}
+use Rattle.paper.specs.Text.{Bytes, tab, digits, name_text}
 use Rattle.paper.specs.Limits.{max_blocks, max_succs, max_steps, words_size}
-use Rattle.paper.specs.Refusals.{Record, typed_record, block_record, step_record}
-use Rattle.paper.specs.Report.{behind_tabs}
-use Rattle.paper.specs.Writing.{allocation_text, operand_texts, record_text, records_text, block_records}
+use Rattle.paper.specs.Refusals.{typed_record}
+use Rattle.paper.specs.Writing.{allocation_text, operand_texts, record_text, records_text}
 use Rattle.layout.specs.Layout.{opened_word}
 use Rattle.cells.specs.Packed.{name_of_word}
-use Rattle.loaded.specs.Actions.{register_of, operand_of, operands, step_of, action_at, steps_at}
+use Rattle.loaded.specs.Actions.{register_of, operand_of, operands}
 use Rattle.loaded.specs.Loaded.{reached_of, first_step, step_total, succ_total, marked_from}
 use Rattle.loaded.specs.declared.Reached.{Reached}
-use Rattle.spelling.specs.Parted.{row, row_closed}
-use Rattle.writer.specs.Form.{blocks_fit, BlockFits, fits, typed_text}
+use Rattle.spelling.specs.Parted.{row}
+use Rattle.writer.specs.Form.{blocks_fit, fits, typed_text}
 
 -- typed names
 

@@ -1,14 +1,12 @@
 -- The call's answer: no form, a text that is too long or that the reader turns away, no room, or the text.
-use mathlib.Core.Path.{◌≡◌, refl, sym, ap, ◌∙◌}
-use mathlib.Core.Bool.{Bool, true, false, cond, not, ◌||◌}
+use mathlib.Core.Path.{◌≡◌, sym, ap, ◌∙◌}
+use mathlib.Core.Bool.{Bool, true, false}
 use mathlib.Core.List.{List, [], ◌∷◌, ◌++◌}
-use Prim.Native.Nat.{ℕ, ◌+◌, ◌≤◌, ◌<◌}
+use Prim.Native.Nat.{ℕ, ◌≤◌, ◌<◌}
 use native.Mathlib.Omega.{arith}
 use borrow.Author.Tests.{lt-ltb, le-ltb}
-use lib.Dec.{ltb}
 use lib.ListN.{length, take, drop}
 use lib.Seq.{take_at}
-use Rattle.lists.specs.Sets.{Wrote}
 use Rattle.paper.specs.Text.{Bytes}
 use Rattle.paper.specs.Limits.{max_sheet}
 use Rattle.paper.specs.Refusals.{empty, no_text, read}

@@ -1,9 +1,8 @@
 -- The numbers that words of 16 bits hold have at most five digits, so what is written of them is read as it stands.
-use mathlib.Core.Path.{◌≡◌, refl, sym, ap, ◌∙◌}
 use mathlib.Core.Bool.{Bool, true, false, cond}
 use mathlib.Core.List.{List, [], ◌∷◌, ◌++◌, map}
-use mathlib.Core.Option.{Option, none, some}
-use Prim.Native.Nat.{ℕ, suc, zero, ◌+◌, ◌*◌, ◌-◌, ◌/◌, ◌%◌, ◌^◌, ◌≤◌, ◌<◌}
+use mathlib.Core.Option.{none, some}
+use Prim.Native.Nat.{ℕ, suc, zero, ◌+◌, ◌*◌, ◌/◌, ◌%◌, ◌≤◌, ◌<◌}
 use native.Mathlib.Omega.{arith}
 use borrow.Author.Tests.{lt-ltb, le-ltb}
 use lib.Dec.{eqb}
@@ -12,19 +11,13 @@ use Rattle.lists.specs.Split.{by_order}
 use Rattle.lists.specs.Region.{region}
 use Rattle.lists.specs.Regions.{All}
 use Rattle.lists.specs.Bits.{set_bits, set_bits_below}
-use Rattle.paper.specs.Text.{Name, real, virtual}
-use Rattle.paper.specs.Sheet.{Operand, Step, Block}
-use Rattle.paper.specs.Refusals.{Record, typed_record, block_record, step_record}
+use Rattle.paper.specs.Refusals.{Record, typed_record, step_record}
 use Rattle.paper.specs.Writing.{block_records, records_of}
 use Rattle.layout.specs.Layout.{step_base, step_words, typed_base, typed_words, opened_word, succ_base}
 use Rattle.cells.specs.Packed.{name_of_word}
 use Rattle.loaded.specs.Actions.{register_of, operand_of, operands, copy_step, step_of, action_of, action_at, steps_at}
 use Rattle.loaded.specs.Loaded.{first_step, step_total, succ_total, block_at, blocks_at, marked_from, sheet_of}
-use Rattle.loaded.specs.declared.CopyKind.{CopyKind}
-use Rattle.loaded.specs.declared.CopyKind.TheVariants.{Spill, Reload, Move}
-use Rattle.loaded.specs.declared.Action.{Action}
-use Rattle.loaded.specs.declared.Action.TheVariants.{Copy, Change, Operation, Safepoint}
-use Rattle.spelling.specs.Short.{Short, ShortName, ShortRegister, ShortOperand, ShortOperands, ShortGroup, ShortStep, ShortRecord, ShortRecords, ShortSheet}
+use Rattle.spelling.specs.Short.{Short, ShortName, ShortRegister, ShortOperand, ShortOperands, ShortGroup, ShortStep, ShortRecords, ShortSheet}
 
 -- a word of 16 bits
 abbrev pub Word : ℕ → Type 0

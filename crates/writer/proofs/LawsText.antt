@@ -1,7 +1,7 @@
 -- From the parts to the text: a line of its parts, a step's line by its action, a block's lines, all lines; and what the reader's answer
 -- to it says.
 use mathlib.Core.Path.{◌≡◌, refl, sym, ap, ◌∙◌}
-use mathlib.Core.Bool.{Bool, true, false, cond, ◌&&◌, true≢false}
+use mathlib.Core.Bool.{true, false}
 use mathlib.Core.List.{List, [], ◌∷◌, ◌++◌, map, append-nil, append_assoc}
 use Prim.Native.Nat.{ℕ, suc, zero, ◌+◌, ◌-◌, ◌*◌, ◌≤◌, ◌<◌}
 use native.Mathlib.Nat.{add-zero, zero-add}
@@ -16,27 +16,26 @@ use Rattle.lists.specs.Split.{and_left, and_right}
 use Rattle.lists.specs.Region.{region, length_region}
 use Rattle.lists.specs.Bits.{set_bits}
 use Rattle.paper.specs.Text.{Bytes, tab, line_feed, digits}
-use Rattle.paper.specs.Sheet.{Operand, Step, change, operation, safepoint, Block}
+use Rattle.paper.specs.Sheet.{Operand, change, safepoint, Block}
 use Rattle.paper.specs.Limits.{max_blocks, max_succs, max_steps, words_size}
-use Rattle.paper.specs.Refusals.{Record, typed_record, block_record, step_record, Reading, loaded, refused}
+use Rattle.paper.specs.Refusals.{typed_record, block_record, step_record, Reading, loaded, refused}
 use Rattle.paper.specs.Report.{behind_tabs}
 use Rattle.paper.specs.Writing.{operand_texts, letter_of, texts_of, record_text, records_text, block_records, records_of, sheet_text, is_read}
 use Rattle.paper.specs.declared.Refusal.{Refusal}
 use Rattle.layout.specs.Layout.{operand_base, operand_words, typed_base, typed_words, opened_word, defs_from, succ_base}
 use Rattle.cells.specs.Packed.{name_of_word}
-use Rattle.loaded.specs.Actions.{operand_of, operands, copy_step, step_of, action_at, steps_at, Packs}
+use Rattle.loaded.specs.Actions.{operand_of, operands, copy_step, step_of, action_at, steps_at}
 use Rattle.loaded.specs.Loaded.{first_step, step_total, succ_total, block_at, blocks_at, marked_from, sheet_of}
 use Rattle.loaded.specs.Same.{packs_at}
 use Rattle.loaded.specs.declared.CopyKind.{CopyKind}
 use Rattle.loaded.specs.declared.CopyKind.TheVariants.{Spill, Reload, Move}
 use Rattle.loaded.specs.declared.Action.TheVariants.{Copy, Change, Operation, Safepoint}
 use Rattle.sheet.specs.Reading.{loading_of}
-use Rattle.sheet.specs.declared.Loading as Loading
 use Rattle.sheet.specs.declared.Loading.TheVariants as loading
 use Rattle.spelling.specs.Parted.{row, row_closed}
 use Rattle.spelling.specs.Added.{text_append}
 use Rattle.writer.specs.Form.{blocks_fit, BlockFits, fits, function_in, groups_text, copy_letter}
-use Rattle.writer.specs.Filled.{Filled, whole, filled_then}
+use Rattle.writer.specs.Filled.{Filled, whole}
 
 -- lines of their parts
 

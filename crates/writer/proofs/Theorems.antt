@@ -1,9 +1,9 @@
 -- What is known of the calls, over their promises: what is written is read back as the form that the words hold; words that a sheet was
 -- loaded into are written as that sheet's own bytes; no sheet gives a form exactly where the answer is that none does; one outcome only.
-use mathlib.Core.Path.{◌≡◌, refl, sym, ap, ◌∙◌}
-use mathlib.Core.Bool.{Bool, true, false, cond, ◌&&◌, true≢false}
-use mathlib.Core.List.{List, [], ◌∷◌}
-use mathlib.Core.Option.{Option, none, some}
+use mathlib.Core.Path.{◌≡◌, sym, ap, ◌∙◌}
+use mathlib.Core.Bool.{Bool, true, false, cond}
+use mathlib.Core.List.{List}
+use mathlib.Core.Option.{none, some}
 use Prim.Native.Nat.{ℕ, ◌≤◌}
 use native.Mathlib.Omega.{arith}
 use lib.ListN.{length, take}
@@ -12,9 +12,9 @@ use Rattle.paper.specs.Text.{Bytes}
 use Rattle.paper.specs.Sheet.{Sheet}
 use Rattle.paper.specs.Limits.{words_size}
 use Rattle.paper.specs.Refusals.{loaded, read}
-use Rattle.paper.specs.Writing.{sheet_text, is_read, SheetOut, room_outcome, sheet_outcome}
+use Rattle.paper.specs.Writing.{SheetOut, room_outcome, sheet_outcome}
 use Rattle.paper.specs.declared.Written.{Written}
-use Rattle.paper.specs.declared.Written.TheVariants.{Text, NoSheet, NoRoom}
+use Rattle.paper.specs.declared.Written.TheVariants.{Text}
 use Rattle.loaded.specs.Loaded.{sheet_of, Loaded}
 use Rattle.spelling.specs.Theorems.{own_bytes, written_again}
 use Rattle.writer.specs.Form.{fits, form_of, form_outcome, WriteExported}

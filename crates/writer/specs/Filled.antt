@@ -1,6 +1,6 @@
 -- A text that is written as far as a sheet's size goes: either all of it stands, or it has become longer than any sheet.
-use Rattle.std.specs.Prelude.{◌≡◌, List, [], ◌∷◌, ◌++◌, ℕ, ◌+◌, ◌≤◌, ◌<◌, length}
-use Rattle.std.proofs.Common.{sym, ◌∙◌, arith, length-append}
+use Rattle.std.specs.Prelude.{◌≡◌, List, ◌++◌, ℕ, ◌+◌, ◌<◌, length}
+use Rattle.std.proofs.Common.{◌∙◌, arith, length-append}
 use Rattle.lists.specs.Sets.{Wrote, then, length_wrote}
 use Rattle.paper.specs.Limits.{max_sheet}
 

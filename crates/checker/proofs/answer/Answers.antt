@@ -1,7 +1,6 @@
 -- `checker::answer` meets its contract: a refusal is said as the reader gives it; a sheet that is loaded is said of as the paper does.
 use native.Mathlib.Omega.{arith}
 use Rattle.checker.proofs.Laws.{answered_from, loaded_words, few_steps, said_of_loaded, refused_answer}
-use borrow.Author.Rules.{rules}
 use Rattle.checker.proofs.answer.Goals as goal
 
 pub write_faults-requires : goal.write_faults-requires

@@ -1,7 +1,6 @@
 -- `checker::answer_text` meets its contract: a report stands already, a refusal is written over nothing.
 use mathlib.Core.Logic.{inl, inr}
 use Rattle.checker.proofs.Texts.{texted, texted_short, room, texted_refusal}
-use borrow.Author.Rules.{rules}
 use Rattle.checker.proofs.answer_text.Goals as goal
 
 pub write_refusal-requires : goal.write_refusal-requires

@@ -2,7 +2,6 @@
 use mathlib.Core.Path.{sym, ◌∙◌}
 use Rattle.checker.specs.Lengths.{long}
 use Rattle.checker.proofs.Laws.{turned_short, checked}
-use borrow.Author.Rules.{rules}
 use Rattle.checker.proofs.check.Goals as goal
 
 pub returns-then-too_short : goal.returns-then-too_short

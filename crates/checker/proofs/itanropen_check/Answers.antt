@@ -1,6 +1,5 @@
 -- `checker::itanropen_check` meets its contract: it is `check` under the rule that the bool names.
 use Rattle.checker.proofs.Laws.{exported}
-use borrow.Author.Rules.{rules}
 use Rattle.checker.proofs.itanropen_check.Goals as goal
 
 pub returns : goal.returns

@@ -1,6 +1,5 @@
 -- `checker::verdict_of` meets its contract: a case for each answer.
 use Rattle.checker.specs.Checked.{verdict_of}
-use borrow.Author.Rules.{rules}
 use Rattle.checker.proofs.verdict_of.Goals as goal
 
 pub returns-in-Accepted : goal.returns-in-Accepted

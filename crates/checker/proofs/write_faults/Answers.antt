@@ -1,12 +1,7 @@
 -- `checker::write_faults` meets its contract: what is missing, or what the analysis' states show, is said of the loaded sheet.
 use native.Mathlib.Omega.{arith}
-use mathlib.Core.Path.{◌≡◌, refl}
-use mathlib.Core.List.{[]}
-use Rattle.paper.specs.Report.{missing_allocations}
-use Rattle.loaded.specs.Loaded.{sheet_of}
-use Rattle.faults.specs.Reported.{Checkable}
+use mathlib.Core.Path.{refl}
 use Rattle.checker.proofs.Laws.{reported, nothing_missing, same_sheet, checkable}
-use borrow.Author.Rules.{rules}
 use Rattle.checker.proofs.write_faults.Goals as goal
 
 pub write_missing-requires : goal.write_missing-requires

@@ -3,7 +3,6 @@ use native.Mathlib.Omega.{arith}
 use Rattle.lists.specs.Sets.{then, length_wrote}
 use Rattle.fields.specs.Spelling.{length_digits}
 use Rattle.checker.proofs.Texts.{refusal_wrote}
-use borrow.Author.Rules.{rules}
 use Rattle.checker.proofs.write_refusal.Goals as goal
 
 pub write_before_number-b-requires : goal.write_before_number-b-requires

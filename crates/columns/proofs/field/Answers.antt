@@ -1,7 +1,6 @@
 -- `columns::field` meets its contract: a number that names no field gives 0, and any other the field that is looked for.
-use mathlib.Core.Path.{sym, ◌∙◌}
+use mathlib.Core.Path.{◌∙◌}
 use Rattle.paper.specs.Refusals.{field_of}
-use borrow.Author.Rules.{rules}
 use Rattle.columns.proofs.field.Goals as goal
 
 pub returns-then-names_field : goal.returns-then-names_field

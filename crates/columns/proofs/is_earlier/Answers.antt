@@ -1,11 +1,5 @@
 use mathlib.Core.Path.{sym, ◌∙◌}
-use Prim.Native.Nat.{◌-◌}
-use Rattle.paper.specs.Text.{name_of}
-use Rattle.records.specs.Records.{Next, name_of_code}
-use Rattle.records.specs.Parts.{NextOperand, operand_of_codes}
-use Rattle.columns.specs.Columns.{shares}
-use Rattle.columns.proofs.LawsOperands.{name_again, register_again, name_unread, register_unread, operand_read, Searching, searching_none, searching_bad, searching_found, searching_more, searching_done}
-use borrow.Author.Rules.{rules}
+use Rattle.columns.proofs.LawsOperands.{name_again, register_again, name_unread, register_unread, operand_read, searching_none, searching_bad, searching_found, searching_more, searching_done}
 use Rattle.columns.proofs.is_earlier.Goals as goal
 
 pub loop-done-init : goal.loop-done-init

@@ -1,13 +1,8 @@
 -- `columns::operand_name` meets its contract: a name that passes for itself is held, under refusal 6, against those before it.
-use mathlib.Core.Path.{◌≡◌, sym, ◌∙◌}
-use Rattle.paper.specs.Text.{name_of}
-use Rattle.paper.specs.Refusals.{name_within, new_name}
-use Rattle.records.specs.Records.{name_of_code}
-use Rattle.records.specs.Parts.{counted}
-use Rattle.columns.specs.Columns.{Passed}
+use mathlib.Core.Path.{◌∙◌}
+use Rattle.paper.specs.Refusals.{new_name}
 use Rattle.columns.proofs.LawsPassing.{shown_first, shown_second, passed_both, name_shows, name_passes}
 use Rattle.columns.proofs.LawsOperands.{name_unasked, name_earlier}
-use borrow.Author.Rules.{rules}
 use Rattle.columns.proofs.operand_name.Goals as goal
 
 pub returns-in_default : goal.returns-in_default

@@ -1,8 +1,7 @@
 -- `columns::operand_register` meets its contract: no allocation is read, or one of which `register_shows` tells whether it passes.
-use mathlib.Core.Path.{◌≡◌, sym, ◌∙◌}
+use mathlib.Core.Path.{sym, ◌∙◌}
 use borrow.Author.Tests.{not-true, not-false}
 use Rattle.columns.proofs.LawsPassing.{unread, shown_by}
-use borrow.Author.Rules.{rules}
 use Rattle.columns.proofs.operand_register.Goals as goal
 
 pub returns-in_default : goal.returns-in_default

@@ -2,7 +2,6 @@
 use Rattle.paper.specs.Limits.{max_succs}
 use Rattle.paper.specs.Refusals.{block_passing}
 use Rattle.columns.proofs.LawsNumbers.{numbers_many, numbers_all}
-use borrow.Author.Rules.{rules}
 use Rattle.columns.proofs.passing_block.Goals as goal
 
 pub returns-then-count-gt-MAX_SUCCS : goal.returns-then-count-gt-MAX_SUCCS

@@ -1,15 +1,10 @@
 -- `columns::passing_change` meets its contract: the count ends at the first field that does not pass; under refusal 8 the last does not.
-use mathlib.Core.Path.{◌≡◌, sym, refl, ◌∙◌}
+use mathlib.Core.Path.{sym, refl}
 use mathlib.Core.Bool.{not}
 use borrow.Author.Tests.{eq-eqb, ne_eqb}
 use lib.Dec.{eqb}
-use Rattle.paper.specs.Text.{number_of, name_of}
-use Rattle.paper.specs.Refusals.{within, name_within, change_passing}
-use Rattle.records.specs.Records.{name_of_code}
-use Rattle.records.specs.Parts.{counted}
-use Rattle.columns.specs.Columns.{Passed}
+use Rattle.paper.specs.Refusals.{change_passing}
 use Rattle.columns.proofs.LawsPassing.{shown_first, shown_second, passed_both, passed_on, number_shows, number_passes, name_shows, name_passes}
-use borrow.Author.Rules.{rules}
 use Rattle.columns.proofs.passing_change.Goals as goal
 
 pub returns-in_default : goal.returns-in_default

@@ -1,13 +1,8 @@
 -- `columns::passing_function` meets its contract: the count ends at the first field that does not pass; `blocks` has a second test,
 -- that it is not 0.
-use mathlib.Core.Path.{◌≡◌, sym, refl, ◌∙◌}
-use Prim.Native.Nat.{suc}
-use Rattle.paper.specs.Text.{number_of}
-use Rattle.paper.specs.Limits.{max_regs, max_slots, max_vregs, max_blocks}
+use mathlib.Core.Path.{sym, refl, ◌∙◌}
 use Rattle.paper.specs.Refusals.{within, function_passing}
-use Rattle.columns.specs.Columns.{Passed}
 use Rattle.columns.proofs.LawsPassing.{shown_first, shown_second, passed_both, passed_on, number_shows, number_passes, some_as}
-use borrow.Author.Rules.{rules}
 use Rattle.columns.proofs.passing_function.Goals as goal
 
 pub returns-in_default : goal.returns-in_default

@@ -1,13 +1,7 @@
-use mathlib.Core.Path.{◌≡◌}
-use Prim.Native.Nat.{◌-◌, ◌<◌}
 use native.Mathlib.Omega.{arith}
-use Rattle.paper.specs.Text.{number_of, name_of}
-use Rattle.paper.specs.Refusals.{within, allocation_of, group_passing}
-use Rattle.records.specs.Records.{name_of_code, register_of_code}
-use Rattle.columns.specs.Columns.{Shown, Passed, name_test, register_test}
+use Rattle.paper.specs.Refusals.{group_passing}
 use Rattle.columns.proofs.LawsPassing.{number_shows, number_passes}
-use Rattle.columns.proofs.LawsOperands.{name_shown, name_passed, register_shown, register_passed, Grouped, grouped_none, those_before, grouped_done, name_stops, register_stops, grouped_more}
-use borrow.Author.Rules.{rules}
+use Rattle.columns.proofs.LawsOperands.{name_shown, name_passed, register_shown, register_passed, grouped_none, those_before, grouped_done, name_stops, register_stops, grouped_more}
 use Rattle.columns.proofs.passing_group.Goals as goal
 
 pub returns-in_default : goal.returns-in_default
@@ -35,8 +29,11 @@ returns-in_default-operand_name c =
     name_stops g m.0 m.1 c.loop-count-test.true (name_shown c.args.sought _ (c.operand_name.ensures g.us (those_before g)) c.in_default-operand_name.is)
 
 pub operand_register-requires : goal.operand_register-requires
-operand_register-requires c = ((let g = c.loop-count.invariant in
-    name_passed c.args.sought _ (c.operand_name.ensures g.us (those_before g)) c.in-Value-operand_name.is).field.behind, (number_passes _ _ c.passing_number.ensures c.in-Value.is).0.field.behind)
+operand_register-requires c = (
+  (let g = c.loop-count.invariant in
+      name_passed c.args.sought _ (c.operand_name.ensures g.us (those_before g)) c.in-Value-operand_name.is).field.behind,
+  (number_passes _ _ c.passing_number.ensures c.in-Value.is).0.field.behind,
+)
 
 pub overflow_mul-result-in_default-operand_register : goal.overflow_mul-result-in_default-operand_register
 overflow_mul-result-in_default-operand_register c = omega (arith, (number_passes _ _ c.passing_number.ensures c.in-Value.is).1, c.loop-count-test.true)

@@ -1,7 +1,6 @@
 -- `columns::passing_name` meets its contract: no name is read, or one that the refusal's test lets pass or not (`name_within_as`).
-use mathlib.Core.Path.{sym, ◌∙◌}
+use mathlib.Core.Path.{◌∙◌}
 use Rattle.columns.proofs.LawsPassing.{unread, shown_by, name_within_as}
-use borrow.Author.Rules.{rules}
 use Rattle.columns.proofs.passing_name.Goals as goal
 
 pub returns-in_default : goal.returns-in_default

@@ -1,7 +1,6 @@
 -- `columns::passing_number` meets its contract: no number is read, or one that the refusal's test lets pass or not (`within_as`).
 use mathlib.Core.Path.{◌∙◌}
 use Rattle.columns.proofs.LawsPassing.{unread, shown_by, within_as}
-use borrow.Author.Rules.{rules}
 use Rattle.columns.proofs.passing_number.Goals as goal
 
 pub returns-in_default : goal.returns-in_default

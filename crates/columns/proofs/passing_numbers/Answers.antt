@@ -1,12 +1,6 @@
-use Prim.Native.Nat.{◌-◌, ◌<◌}
 use native.Mathlib.Omega.{arith}
-use lib.ListN.{length}
-use Rattle.paper.specs.Text.{number_of}
-use Rattle.paper.specs.Refusals.{within}
-use Rattle.columns.specs.Columns.{Passed}
 use Rattle.columns.proofs.LawsPassing.{number_shows, number_passes}
-use Rattle.columns.proofs.LawsNumbers.{Counting, counting_none, counting_bad, counting_done, counting_falls, counting_more}
-use borrow.Author.Rules.{rules}
+use Rattle.columns.proofs.LawsNumbers.{counting_none, counting_bad, counting_done, counting_falls, counting_more}
 use Rattle.columns.proofs.passing_numbers.Goals as goal
 
 pub loop-i-init : goal.loop-i-init

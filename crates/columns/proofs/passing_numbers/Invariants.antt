@@ -1,14 +1,8 @@
 -- `columns::passing_numbers` meets its contract: the numbers behind `at` pass as far as i, which moves on each turn; a field that
 -- shows the refusal, or the line's end, ends the count.
-use Prim.Native.Nat.{◌-◌, ◌<◌}
-use native.Mathlib.Omega.{arith}
+use Prim.Native.Nat.{◌-◌}
 use lib.ListN.{length}
-use Rattle.paper.specs.Text.{number_of}
-use Rattle.paper.specs.Refusals.{within}
-use Rattle.columns.specs.Columns.{Passed}
-use Rattle.columns.proofs.LawsPassing.{number_shows, number_passes}
-use Rattle.columns.proofs.LawsNumbers.{Counting, counting_none, counting_bad, counting_done, counting_falls, counting_more}
-use borrow.Author.Rules.{rules}
+use Rattle.columns.proofs.LawsNumbers.{Counting}
 use Rattle.columns.proofs.passing_numbers.Given as goal
 
 abbrev pub invariant-loop-i : goal.invariant-loop-i

@@ -1,14 +1,10 @@
 -- `columns::passing_operation` meets its contract: the inst does not pass, or the uses are counted, and behind them the defs.
-use mathlib.Core.Path.{◌≡◌, sym, ap, ◌∙◌}
-use mathlib.Core.Bool.{false}
+use mathlib.Core.Path.{sym, ap, ◌∙◌}
 use Prim.Native.Nat.{◌+◌}
 use native.Mathlib.Omega.{arith}
-use Rattle.paper.specs.Text.{number_of}
-use Rattle.paper.specs.Refusals.{within, operation_passing}
-use Rattle.columns.specs.Columns.{Passed, GroupPassed, GroupShown}
+use Rattle.paper.specs.Refusals.{operation_passing}
 use Rattle.columns.proofs.LawsPassing.{passed_on, number_shows, number_passes}
 use Rattle.columns.proofs.LawsOperands.{group_shown, group_passed}
-use borrow.Author.Rules.{rules}
 use Rattle.columns.proofs.passing_operation.Goals as goal
 
 pub returns-in_default : goal.returns-in_default

@@ -1,11 +1,7 @@
 -- `columns::passing_pair` meets its contract: the count ends at the first number that does not pass, or behind both.
-use mathlib.Core.Path.{sym, refl, ◌∙◌}
-use Prim.Native.Nat.{◌<◌}
-use Rattle.paper.specs.Text.{number_of}
-use Rattle.paper.specs.Refusals.{within, pair_passing}
-use Rattle.columns.specs.Columns.{Passed}
+use mathlib.Core.Path.{sym, refl}
+use Rattle.paper.specs.Refusals.{pair_passing}
 use Rattle.columns.proofs.LawsPassing.{passed_on, number_shows, number_passes}
-use borrow.Author.Rules.{rules}
 use Rattle.columns.proofs.passing_pair.Goals as goal
 
 pub returns-in_default : goal.returns-in_default

@@ -1,12 +1,9 @@
 -- `columns::passing_safepoint` meets its contract: the inst does not pass, or the slots behind it are counted.
 use mathlib.Core.Path.{sym, ◌∙◌}
 use native.Mathlib.Omega.{arith}
-use Rattle.paper.specs.Text.{number_of}
-use Rattle.paper.specs.Refusals.{within, safepoint_passing}
-use Rattle.columns.specs.Columns.{Passed}
+use Rattle.paper.specs.Refusals.{safepoint_passing}
 use Rattle.columns.proofs.LawsPassing.{passed_on, number_shows, number_passes}
 use Rattle.columns.proofs.LawsNumbers.{numbers_small}
-use borrow.Author.Rules.{rules}
 use Rattle.columns.proofs.passing_safepoint.Goals as goal
 
 pub returns-in_default : goal.returns-in_default

@@ -1,12 +1,10 @@
 -- `columns::passing_typed` meets its contract: the number does not pass, or it does but for refusal 6, which it shows itself.
-use mathlib.Core.Path.{◌≡◌, sym, refl, ◌∙◌}
+use mathlib.Core.Path.{sym, refl}
 use mathlib.Core.Bool.{not}
-use native.Mathlib.Omega.{arith}
 use borrow.Author.Tests.{eq-eqb, ne_eqb}
 use lib.Dec.{eqb}
 use Rattle.paper.specs.Refusals.{typed_passing}
 use Rattle.columns.proofs.LawsPassing.{shown_first, shown_second, passed_both, passed_on, number_shows, number_passes}
-use borrow.Author.Rules.{rules}
 use Rattle.columns.proofs.passing_typed.Goals as goal
 
 pub returns-in_default : goal.returns-in_default

@@ -1,7 +1,6 @@
 -- `columns::register_shows` meets its contract: each refusal has one test of a register, and any other number none.
-use mathlib.Core.Path.{◌≡◌, sym, ◌∙◌}
+use mathlib.Core.Path.{◌∙◌}
 use Rattle.columns.proofs.LawsOperands.{register_limit, register_home, register_earlier, register_unasked}
-use borrow.Author.Rules.{rules}
 use Rattle.columns.proofs.register_shows.Goals as goal
 
 pub returns-then-number-eq-BEYOND_LIMIT : goal.returns-then-number-eq-BEYOND_LIMIT

@@ -12,7 +12,6 @@ use Rattle.records.specs.Records.{Behind}
 use Rattle.columns.specs.Columns.{Opening}
 use Rattle.columns.specs.Bounds.{function_most, typed_most, block_most, pair_most, change_most, operation_most, safepoint_most}
 use Rattle.columns.proofs.LawsLines.{behind_its_letter, few_behind, by_its_letter, by_no_letter, typed_counted, block_counted, change_counted, operation_counted, safepoint_counted}
-use borrow.Author.Rules.{rules}
 use Rattle.columns.proofs.shown_field.Goals as goal
 
 -- the place behind a letter

@@ -1,9 +1,6 @@
 use mathlib.Core.Path.{sym, ◌∙◌}
-use Prim.Native.Nat.{◌-◌}
-use lib.ListN.{length}
 use native.Mathlib.Omega.{arith}
-use Rattle.compare.proofs.LawsLine.{Judging, header_refused, judging_first, fault_good, line_bad, unreached_good, count_right, count_wrong}
-use borrow.Author.Rules.{rules}
+use Rattle.compare.proofs.LawsLine.{header_refused, judging_first, fault_good, line_bad, unreached_good, count_right, count_wrong}
 use Rattle.compare.proofs.bad_line.Goals as goal
 
 pub returns-in_default : goal.returns-in_default

@@ -1,10 +1,7 @@
 -- `bad_line` meets its contract: before each turn the lines from `at` on decide, behind the faults so far (`Judging`).
-use mathlib.Core.Path.{sym, ◌∙◌}
 use Prim.Native.Nat.{◌-◌}
 use lib.ListN.{length}
-use native.Mathlib.Omega.{arith}
-use Rattle.compare.proofs.LawsLine.{Judging, header_refused, judging_first, fault_good, line_bad, unreached_good, count_right, count_wrong}
-use borrow.Author.Rules.{rules}
+use Rattle.compare.proofs.LawsLine.{Judging}
 use Rattle.compare.proofs.bad_line.Given as goal
 
 abbrev pub invariant-loop-at : goal.invariant-loop-at

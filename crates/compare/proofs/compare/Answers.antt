@@ -1,7 +1,6 @@
 -- `compare` meets its contract: the first report, the second, and where they part.
 use native.Mathlib.Omega.{arith}
 use Rattle.compare.proofs.LawsLine.{first_bad, second_bad, both_good}
-use borrow.Author.Rules.{rules}
 use Rattle.compare.proofs.compare.Goals as goal
 
 pub returns-then-bad-ne0 : goal.returns-then-bad-ne0

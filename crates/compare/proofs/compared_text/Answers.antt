@@ -1,14 +1,12 @@
 -- `compared_text` meets its contract: without room nothing is written; else the line that the answer asks for, and where the reports
 -- part the rest behind it.
-use mathlib.Core.Path.{◌≡◌, sym, ◌∙◌}
+use mathlib.Core.Path.{sym, ◌∙◌}
 use Prim.Native.Nat.{◌≤◌}
-use mathlib.Core.Bool.{false}
 use lib.ListN.{length}
 use native.Mathlib.Omega.{arith}
 use Rattle.lists.specs.Sets.{then, length_wrote}
-use Rattle.compare.specs.Written.{said_text, longest_report, longest_text, no_room}
+use Rattle.compare.specs.Written.{said_text, longest_report}
 use Rattle.compare.proofs.LawsText.{told_none, told_text, roomy, rest_short}
-use borrow.Author.Rules.{rules}
 use Rattle.compare.proofs.compared_text.Goals as goal
 
 pub returns-then-no_room : goal.returns-then-no_room

@@ -1,6 +1,5 @@
 -- `field_at` meets its contract: each code has the shape that its function reads.
 use Rattle.compare.proofs.LawsLine.{code_number, code_name, code_register, code_slot, code_byte, same_place, letter_r_inner, letter_s_inner}
-use borrow.Author.Rules.{rules}
 use Rattle.compare.proofs.field_at.Goals as goal
 
 pub returns-then-code-eq-NUMBER : goal.returns-then-code-eq-NUMBER

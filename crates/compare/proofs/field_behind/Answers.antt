@@ -1,10 +1,8 @@
 -- `field_behind` meets its contract: a tab, and then the field.
-use mathlib.Core.Path.{sym, ◌∙◌}
 use native.Mathlib.Omega.{arith}
 use borrow.Enum.Refused.{opened}
 use Rattle.compare.proofs.Laws.{no_tab}
 use Rattle.compare.proofs.LawsLine.{behind_none, behind_tab, within_before}
-use borrow.Author.Rules.{rules}
 use Rattle.compare.proofs.field_behind.Goals as goal
 
 pub returns-in_default : goal.returns-in_default

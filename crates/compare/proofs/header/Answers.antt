@@ -1,13 +1,9 @@
 -- `header` meets its contract, field by field (`Heading`).
-use mathlib.Core.Path.{◌≡◌, sym, ◌∙◌}
-use Prim.Native.Nat.{◌≤◌, ◌<◌}
-use lib.ListN.{length, get_or}
-use Rattle.paper.specs.Text.{tab}
+use mathlib.Core.Path.{sym, ◌∙◌}
 use native.Mathlib.Omega.{arith}
 use borrow.Enum.Refused.{opened}
 use Rattle.compare.proofs.Laws.{no_tab, no_feed}
-use Rattle.compare.proofs.LawsLine.{Heading, from_rule, from_count, letter_none, letter_there, rule_none, rule_there, no_count, count_none, header_good, header_open}
-use borrow.Author.Rules.{rules}
+use Rattle.compare.proofs.LawsLine.{letter_none, letter_there, rule_none, rule_there, no_count, count_none, header_good, header_open}
 use Rattle.compare.proofs.header.Goals as goal
 
 pub returns-in_default : goal.returns-in_default

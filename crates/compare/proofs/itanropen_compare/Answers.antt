@@ -1,7 +1,6 @@
 -- `itanropen_compare` meets its contract, case by case.
-use mathlib.Core.Path.{◌≡◌, sym, ◌∙◌}
+use mathlib.Core.Path.{sym, ◌∙◌}
 use Rattle.compare.specs.Places.{judgement_of}
-use borrow.Author.Rules.{rules}
 use Rattle.compare.proofs.itanropen_compare.Goals as goal
 
 pub returns-in-Equal : goal.returns-in-Equal

@@ -2,7 +2,6 @@
 use mathlib.Core.Path.{sym, ◌∙◌}
 use native.Mathlib.Omega.{arith}
 use Rattle.compare.proofs.Laws.{lettered_past, lettered_other, lettered_bad, lettered_good}
-use borrow.Author.Rules.{rules}
 use Rattle.compare.proofs.lettered_at.Goals as goal
 
 pub returns-then-s-at : goal.returns-then-s-at

@@ -1,9 +1,7 @@
 use mathlib.Core.Path.{sym, ◌∙◌}
-use Prim.Native.Nat.{◌-◌}
 use native.Mathlib.Omega.{arith}
-use Rattle.compare.proofs.LawsLine.{Rowing, rowing_first, eight, row_good, row_bad, no_row}
+use Rattle.compare.proofs.LawsLine.{rowing_first, eight, row_good, row_bad, no_row}
 use Rattle.compare.specs.Places.{codes_of_lines}
-use borrow.Author.Rules.{rules}
 use Rattle.compare.proofs.line_at.Goals as goal
 
 pub loop-k-init : goal.loop-k-init

@@ -1,10 +1,6 @@
 -- `line_at` meets its contract: before each turn the shapes from k on decide (`Rowing`).
-use mathlib.Core.Path.{sym, ◌∙◌}
 use Prim.Native.Nat.{◌-◌}
-use native.Mathlib.Omega.{arith}
-use Rattle.compare.proofs.LawsLine.{Rowing, rowing_first, eight, row_good, row_bad, no_row}
-use Rattle.compare.specs.Places.{codes_of_lines}
-use borrow.Author.Rules.{rules}
+use Rattle.compare.proofs.LawsLine.{Rowing}
 use Rattle.compare.proofs.line_at.Given as goal
 
 abbrev pub invariant-loop-k : goal.invariant-loop-k

@@ -1,11 +1,8 @@
 use mathlib.Core.Path.{sym, ◌∙◌}
-use Prim.Native.Nat.{◌-◌}
-use lib.ListN.{length}
 use native.Mathlib.Omega.{arith}
 use borrow.Enum.Refused.{opened}
 use Rattle.compare.proofs.Laws.{no_feed}
-use Rattle.compare.proofs.LawsLine.{Lining, line_misfit, lining_first, lining_bad, lining_more, line_closed, line_open}
-use borrow.Author.Rules.{rules}
+use Rattle.compare.proofs.LawsLine.{line_misfit, lining_first, lining_bad, lining_more, line_closed, line_open}
 use Rattle.compare.proofs.line_of.Goals as goal
 
 pub bounds-codes-0 : goal.bounds-codes-0

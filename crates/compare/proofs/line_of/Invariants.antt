@@ -1,11 +1,7 @@
 -- `line_of` meets its contract: before each turn the fields behind a place decide whether the codes that are left fit (`Lining`).
-use mathlib.Core.Path.{sym, ◌∙◌}
 use Prim.Native.Nat.{◌-◌}
 use lib.ListN.{length}
-use native.Mathlib.Omega.{arith}
-use Rattle.compare.proofs.Laws.{no_feed}
-use Rattle.compare.proofs.LawsLine.{Lining, line_misfit, lining_first, lining_bad, lining_more, line_closed, line_open}
-use borrow.Author.Rules.{rules}
+use Rattle.compare.proofs.LawsLine.{Lining}
 use Rattle.compare.proofs.line_of.Given as goal
 
 abbrev pub invariant-loop-i : goal.invariant-loop-i

@@ -2,7 +2,6 @@
 use mathlib.Core.Path.{sym, ◌∙◌}
 use native.Mathlib.Omega.{arith}
 use Rattle.compare.proofs.Laws.{name_good, name_bad}
-use borrow.Author.Rules.{rules}
 use Rattle.compare.proofs.name_at.Goals as goal
 
 pub returns-in_default : goal.returns-in_default

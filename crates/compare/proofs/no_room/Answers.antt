@@ -1,6 +1,5 @@
 -- `no_room` meets its contract, test by test.
 use Rattle.compare.proofs.LawsText.{first_long, second_long, both_short}
-use borrow.Author.Rules.{rules}
 use Rattle.compare.proofs.no_room.Goals as goal
 
 pub returns-then-first-gt-LONGEST_REPORT : goal.returns-then-first-gt-LONGEST_REPORT

@@ -2,7 +2,6 @@
 use mathlib.Core.Path.{sym, ◌∙◌}
 use native.Mathlib.Omega.{arith}
 use Rattle.compare.proofs.Laws.{number_good, number_bad}
-use borrow.Author.Rules.{rules}
 use Rattle.compare.proofs.number_at.Goals as goal
 
 pub returns-in_default : goal.returns-in_default

@@ -1,9 +1,5 @@
-use mathlib.Core.Path.{sym, ◌∙◌}
-use Prim.Native.Nat.{◌-◌}
-use lib.ListN.{length}
 use native.Mathlib.Omega.{arith}
-use Rattle.compare.proofs.LawsPart.{Scanning, scanning_first, scan_over, scan_first_over, scan_second_over, scan_differs, scan_feed, scan_more}
-use borrow.Author.Rules.{rules}
+use Rattle.compare.proofs.LawsPart.{scanning_first, scan_over, scan_first_over, scan_second_over, scan_differs, scan_feed, scan_more}
 use Rattle.compare.proofs.part.Goals as goal
 
 pub loop-at-init : goal.loop-at-init

@@ -2,7 +2,6 @@
 use mathlib.Core.Path.{refl}
 use lib.ListN.{length-drop}
 use lib.Seq.{take-length}
-use borrow.Author.Rules.{rules}
 use Rattle.compare.proofs.part_from.Goals as goal
 
 pub returns : goal.returns

@@ -1,8 +1,5 @@
 -- `rest` meets its contract: the longer report, from the place on where the two part.
-use native.Mathlib.Omega.{arith}
-use Prim.Native.Nat.{◌≤◌}
 use Rattle.compare.proofs.LawsRest.{place_first, place_second, handed_first, handed_second}
-use borrow.Author.Rules.{rules}
 use Rattle.compare.proofs.rest.Goals as goal
 
 pub part_from-requires : goal.part_from-requires

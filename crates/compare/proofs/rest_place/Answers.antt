@@ -1,6 +1,5 @@
 -- `rest_place` meets its contract, case by case.
 use Rattle.paper.specs.Comparison.{rest_place}
-use borrow.Author.Rules.{rules}
 use Rattle.compare.proofs.rest_place.Goals as goal
 
 pub returns-in-Equal : goal.returns-in-Equal

@@ -4,7 +4,6 @@ use native.Mathlib.Omega.{arith}
 use borrow.Enum.Refused.{opened}
 use Rattle.compare.proofs.Laws.{no_tab}
 use Rattle.compare.proofs.LawsLine.{behind_none, behind_tab, within_before, old_place, house_place}
-use borrow.Author.Rules.{rules}
 use Rattle.compare.proofs.rule_behind.Goals as goal
 
 pub returns-in_default : goal.returns-in_default

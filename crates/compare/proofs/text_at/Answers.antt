@@ -1,13 +1,7 @@
-use mathlib.Core.Path.{◌≡◌, sym, ◌∙◌}
-use mathlib.Core.Bool.{false}
-use Prim.Native.Nat.{◌-◌}
-use lib.ListN.{length, get_or}
-use Rattle.fields.specs.Fields.{ends_field}
 use Rattle.fields.specs.Cursor.{field_past, field_stop}
 use native.Mathlib.Omega.{arith}
 use borrow.Enum.Refused.{opened}
-use Rattle.compare.proofs.Laws.{inner, stopped, Texting, texting_first, text_past, text_ended, text_other, texting_more, text_good, text_longer}
-use borrow.Author.Rules.{rules}
+use Rattle.compare.proofs.Laws.{inner, stopped, texting_first, text_past, text_ended, text_other, texting_more, text_good, text_longer}
 use Rattle.compare.proofs.text_at.Goals as goal
 
 pub loop-i-init : goal.loop-i-init
@@ -22,8 +16,11 @@ pub returns-then-s-next : goal.returns-then-s-next
 returns-then-s-next c = record { value = text_past c.loop-i.invariant c.loop-i-test.true c.if-s-next.true; within = tt }
 
 pub returns-then-s-next-2 : goal.returns-then-s-next-2
-returns-then-s-next-2 c = record { value = text_other c.loop-i.invariant c.loop-i-test.true (omega (arith, c.if-s-next.false)) (let told = rw c.in-Neither.is at c.ends.ensures.within in
-    inner _ told.0 told.1) c.if-s-next-2.true; within = tt }
+returns-then-s-next-2 c = record {
+  value = text_other c.loop-i.invariant c.loop-i-test.true (omega (arith, c.if-s-next.false)) (let told = rw c.in-Neither.is at c.ends.ensures.within in
+      inner _ told.0 told.1) c.if-s-next-2.true;
+  within = tt;
+}
 
 pub loop-i-preserved : goal.loop-i-preserved
 loop-i-preserved c =

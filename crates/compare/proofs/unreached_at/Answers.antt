@@ -3,7 +3,6 @@ use mathlib.Core.Path.{◌∙◌, ap}
 use mathlib.Core.Bool.{Bool}
 use Rattle.compare.specs.Places.{line_place}
 use Rattle.compare.proofs.LawsLine.{unreached_codes}
-use borrow.Author.Rules.{rules}
 use Rattle.compare.proofs.unreached_at.Goals as goal
 
 pub returns : goal.returns

@@ -4,7 +4,6 @@ use Rattle.lists.specs.Sets.{then}
 use Rattle.paper.specs.Report.{behind_tabs}
 use Rattle.fields.specs.Spelling.{length_digits}
 use Rattle.compare.specs.Written.{parted_text}
-use borrow.Author.Rules.{rules}
 use Rattle.compare.proofs.write_parted.Goals as goal
 
 pub write_byte-a-requires : goal.write_byte-a-requires

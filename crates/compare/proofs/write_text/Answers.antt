@@ -1,8 +1,5 @@
-use Prim.Native.Nat.{◌-◌}
-use lib.ListN.{length}
 use native.Mathlib.Omega.{arith}
-use Rattle.compare.proofs.LawsText.{Writing, writing_first, writing_more, writing_all}
-use borrow.Author.Rules.{rules}
+use Rattle.compare.proofs.LawsText.{writing_first, writing_more, writing_all}
 use Rattle.compare.proofs.write_text.Goals as goal
 
 pub loop-i-init : goal.loop-i-init

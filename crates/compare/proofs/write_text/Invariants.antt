@@ -1,9 +1,7 @@
 -- `write_text` meets its contract: before each turn the first i bytes stand in the room (`Writing`).
 use Prim.Native.Nat.{◌-◌}
 use lib.ListN.{length}
-use native.Mathlib.Omega.{arith}
-use Rattle.compare.proofs.LawsText.{Writing, writing_first, writing_more, writing_all}
-use borrow.Author.Rules.{rules}
+use Rattle.compare.proofs.LawsText.{Writing}
 use Rattle.compare.proofs.write_text.Given as goal
 
 abbrev pub invariant-loop-i : goal.invariant-loop-i

@@ -1,8 +1,7 @@
 -- `block_lines` meets its contract: a block whose mark is 0 has no state behind the analysis, so its one line is its own
 -- (`unmarked_entries`); any other has the lines of its faults (`marked_entries`).
 use native.Mathlib.Omega.{arith}
-use Rattle.faults.proofs.LawsBlock.{BlockWithin, block_within, unmarked_entries, marked_entries}
-use borrow.Author.Rules.{rules}
+use Rattle.faults.proofs.LawsBlock.{block_within, unmarked_entries, marked_entries}
 use Rattle.faults.proofs.block_lines.Goals as goal
 
 pub overflow_add-block : goal.overflow_add-block

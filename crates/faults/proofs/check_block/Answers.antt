@@ -5,17 +5,15 @@ use Rattle.faults.specs.Reported.{Checkable}
 use Prim.Native.Nat.{◌<◌}
 use Rattle.layout.specs.Layout.{blocks_word}
 use mathlib.Core.Path.{◌≡◌, refl, ap, ◌∙◌}
-use Prim.Native.Nat.{ℕ, ◌+◌, ◌*◌, ◌-◌, ◌≤◌}
+use Prim.Native.Nat.{ℕ, ◌+◌}
 use native.Mathlib.Omega.{arith}
-use lib.ListN.{length, get_or}
-use Rattle.paper.specs.Limits.{longest_fault_line}
+use lib.ListN.{get_or}
 use Rattle.loaded.specs.Laws.{in_range_most}
 use Rattle.loaded.specs.Allocated.{in_range_at, honest_at}
 use Rattle.loaded.specs.Actions.{action_at, InRange}
 use Rattle.loaded.specs.Loaded.{first_step, step_total, counts_in}
 use Rattle.faults.proofs.LawsErrors.{error_within}
-use Rattle.faults.proofs.LawsBlock.{SoFar, BlockWithin, block_within, so_far_none, so_far_all, so_far_more}
-use borrow.Author.Rules.{rules}
+use Rattle.faults.proofs.LawsBlock.{block_within, so_far_none, so_far_all, so_far_more}
 use Rattle.layout.specs.Layout.{row_widths}
 use Rattle.faults.proofs.check_block.Goals as goal
 
@@ -74,13 +72,13 @@ overflow_add-place c = omega (arith, (block_within c.requires.0.loaded c.require
 
 pub loop-place-preserved : goal.loop-place-preserved
 loop-place-preserved c = (
-      omega arith,
-      omega arith,
-      omega arith,
-      so_far_more _ _ _ (here c.args.words.now c.args.block c.loop-place.place c.first_step-first.ensures c.action_at-action.ensures) (c.check-error.ensures _ (runs c.requires.0 c.requires.1 c.first_step-first.ensures c.action_at-action.ensures c.step_total-count.ensures c.loop-place-test.true)) (c.inst_of-inst.ensures _)
-          (c.update.ensures _ (block_within c.requires.0.loaded c.requires.1).rows (runs c.requires.0 c.requires.1 c.first_step-first.ensures c.action_at-action.ensures c.step_total-count.ensures c.loop-place-test.true) _ (rw (here c.args.words.now c.args.block c.loop-place.place c.first_step-first.ensures c.action_at-action.ensures) (honest_at c.requires.0.loaded _ c.requires.1 _ (omega arith))))
-          c.loop-place.invariant.3 c.count_or_write-next.ensures.0,
-    )
+  omega arith,
+  omega arith,
+  omega arith,
+  so_far_more _ _ _ (here c.args.words.now c.args.block c.loop-place.place c.first_step-first.ensures c.action_at-action.ensures) (c.check-error.ensures _ (runs c.requires.0 c.requires.1 c.first_step-first.ensures c.action_at-action.ensures c.step_total-count.ensures c.loop-place-test.true)) (c.inst_of-inst.ensures _)
+      (c.update.ensures _ (block_within c.requires.0.loaded c.requires.1).rows (runs c.requires.0 c.requires.1 c.first_step-first.ensures c.action_at-action.ensures c.step_total-count.ensures c.loop-place-test.true) _ (rw (here c.args.words.now c.args.block c.loop-place.place c.first_step-first.ensures c.action_at-action.ensures) (honest_at c.requires.0.loaded _ c.requires.1 _ (omega arith))))
+      c.loop-place.invariant.3 c.count_or_write-next.ensures.0,
+)
 
 pub returns : goal.returns
 returns c = let e : c.loop-place.place ≡ step_total c.args.words.now c.args.block = omega arith in

@@ -1,18 +1,11 @@
 -- `check_block` meets its contract: t is the state behind the steps so far, the pass has been over their faults, and the steps left
 -- get fewer. No allocation is missing, so each step's numbers are below the counts: it can be checked and run, and its line is short.
-use mathlib.Core.Path.{◌≡◌, refl, ap, ◌∙◌}
-use Prim.Native.Nat.{ℕ, ◌+◌, ◌*◌, ◌-◌, ◌≤◌}
-use native.Mathlib.Omega.{arith}
-use lib.ListN.{length, get_or}
+use mathlib.Core.Path.{◌≡◌}
+use Prim.Native.Nat.{◌+◌, ◌*◌, ◌-◌, ◌≤◌}
+use lib.ListN.{length}
 use Rattle.paper.specs.Limits.{longest_fault_line}
-use Rattle.loaded.specs.Laws.{in_range_most}
-use Rattle.loaded.specs.Allocated.{in_range_at, honest_at}
-use Rattle.loaded.specs.Actions.{action_at, InRange}
-use Rattle.loaded.specs.Loaded.{first_step, step_total, counts_in}
-use Rattle.faults.proofs.LawsErrors.{error_within}
-use Rattle.faults.proofs.LawsBlock.{SoFar, BlockWithin, block_within, so_far_none, so_far_all, so_far_more}
-use borrow.Author.Rules.{rules}
-use Rattle.layout.specs.Layout.{row_widths}
+use Rattle.loaded.specs.Loaded.{step_total}
+use Rattle.faults.proofs.LawsBlock.{SoFar}
 use Rattle.faults.proofs.check_block.Given as goal
 
 abbrev pub invariant-loop-place : goal.invariant-loop-place

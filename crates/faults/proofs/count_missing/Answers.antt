@@ -1,10 +1,6 @@
 use mathlib.Core.Path.{◌≡◌, sym, ap}
-use mathlib.Core.Logic.{⊎_elim}
-use Prim.Native.Nat.{◌-◌, ◌≤◌}
 use native.Mathlib.Omega.{arith}
 use lib.ListN.{length}
-use Rattle.paper.specs.Report.{unallocated}
-use Rattle.loaded.specs.Actions.{operands}
 use Rattle.faults.proofs.LawsOperands.{missing_none, counted_more, counted_same}
 use Rattle.faults.proofs.count_missing.Goals as goal
 use Rattle.faults.proofs.count_missing.Goals.{then-words-from-eq-NO_REGISTER, else-words-from-eq-NO_REGISTER}
@@ -13,10 +9,10 @@ pub loop-i-init : goal.loop-i-init
 loop-i-init c = (omega arith, omega arith, ap length (sym (missing_none _ _)))
 
 pub loop-i-preserved : goal.loop-i-preserved
-loop-i-preserved c = 
+loop-i-preserved c =
     elim c.if-words-from-eq-NO_REGISTER.branch [
-      then-words-from-eq-NO_REGISTER w ↦ rw w.count-is (omega arith, omega arith, counted_more _ _ _ (omega arith) _ w.if-words-from-eq-NO_REGISTER.true c.loop-i.invariant.2)
-    | else-words-from-eq-NO_REGISTER w ↦ rw w.count-is (omega arith, omega arith, counted_same _ _ _ (omega arith) _ w.if-words-from-eq-NO_REGISTER.false c.loop-i.invariant.2)
+      | then-words-from-eq-NO_REGISTER w ↦ rw w.count-is (omega arith, omega arith, counted_more _ _ _ (omega arith) _ w.if-words-from-eq-NO_REGISTER.true c.loop-i.invariant.2)
+      | else-words-from-eq-NO_REGISTER w ↦ rw w.count-is (omega arith, omega arith, counted_same _ _ _ (omega arith) _ w.if-words-from-eq-NO_REGISTER.false c.loop-i.invariant.2)
     ]
 
 pub returns : goal.returns

@@ -1,12 +1,9 @@
 -- `count_missing` meets its contract: `count` is how many of the first i operands have no allocation, and `n - i` falls.
-use mathlib.Core.Path.{◌≡◌, sym, ap}
-use mathlib.Core.Logic.{⊎_elim}
+use mathlib.Core.Path.{◌≡◌}
 use Prim.Native.Nat.{◌-◌, ◌≤◌}
-use native.Mathlib.Omega.{arith}
 use lib.ListN.{length}
 use Rattle.paper.specs.Report.{unallocated}
 use Rattle.loaded.specs.Actions.{operands}
-use Rattle.faults.proofs.LawsOperands.{missing_none, counted_more, counted_same}
 use Rattle.faults.proofs.count_missing.Given as goal
 
 abbrev pub invariant-loop-i : goal.invariant-loop-i

@@ -1,13 +1,8 @@
 -- `count_or_write` meets its contract: kind 0 is no fault and no line; any other kind is one line, counted or written, of at most 32
 -- bytes.
-use Prim.Native.Nat.{◌≤◌}
 use native.Mathlib.Omega.{arith}
-use lib.ListN.{length}
-use Rattle.paper.specs.Limits.{longest_fault_line}
-use Rattle.report.specs.Lines.{fields_line}
 use Rattle.report.specs.Lengths.{line_short}
 use Rattle.faults.proofs.LawsPasses.{pass_nothing, pass_counted, pass_written}
-use borrow.Author.Rules.{rules}
 use Rattle.faults.proofs.count_or_write.Goals as goal
 
 pub fields_of-fault-requires : goal.fields_of-fault-requires
@@ -24,6 +19,6 @@ returns-in-Count c = rw c.in-Count.is (pass_counted _ _ _ c.fields_of-fault.ensu
 
 pub returns-in-Write : goal.returns-in-Write
 returns-in-Write c = (
-      rw c.in-Write.is (pass_written _ c.fields_of-fault.ensures c.if-fault-eq0.false c.write_line.ensures),
-      omega (arith, (line_short c.args.position c.fields_of-fault.result c.requires.0 c.fields_of-fault.ensures.short)),
-    )
+  rw c.in-Write.is (pass_written _ c.fields_of-fault.ensures c.if-fault-eq0.false c.write_line.ensures),
+  omega (arith, (line_short c.args.position c.fields_of-fault.result c.requires.0 c.fields_of-fault.ensures.short)),
+)

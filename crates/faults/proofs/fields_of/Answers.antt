@@ -2,7 +2,6 @@
 -- register is not `-`.
 use native.Mathlib.Omega.{arith}
 use Rattle.faults.proofs.LawsFields.{nothing_found, unknown_in_reg, incorrect_in_reg, unknown_in_slot, incorrect_in_slot, non_ref_slot, undefined_slot}
-use borrow.Author.Rules.{rules}
 use Rattle.faults.proofs.fields_of.Goals as goal
 
 pub overflow_cast-reg : goal.overflow_cast-reg

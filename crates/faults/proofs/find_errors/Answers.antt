@@ -1,15 +1,9 @@
 use mathlib.Core.Path.{◌≡◌, refl}
-use Prim.Native.Nat.{◌+◌, ◌*◌, ◌-◌, ◌≤◌}
+use Prim.Native.Nat.{◌+◌}
 use native.Mathlib.Omega.{arith}
-use lib.ListN.{length, get_or}
-use Rattle.paper.specs.Limits.{longest_fault_line, longest_unreached_line}
-use Rattle.paper.specs.Report.{block_entries, by_block}
+use lib.ListN.{get_or}
 use Rattle.layout.specs.Layout.{blocks_word}
-use Rattle.loaded.specs.Loaded.{sheet_of}
-use Rattle.faults.specs.Passes.{AfterPass}
-use Rattle.faults.proofs.LawsFaults.{count_from}
 use Rattle.faults.proofs.LawsBlock.{count_next, count_within, blocks_none, blocks_more, blocks_all}
-use borrow.Author.Rules.{rules}
 use Rattle.faults.proofs.find_errors.Goals as goal
 
 pub blocks-blocks-requires : goal.blocks-blocks-requires
@@ -20,24 +14,24 @@ loop-block-init c = (omega arith, omega arith, refl, blocks_none _ _ _ _ _)
 
 pub block_lines-next-requires : goal.block_lines-next-requires
 block_lines-next-requires c = let b = c.loop-block.block in (
-      c.requires.0,
-      omega arith,
-      omega (arith, count_next c.args.words.now b, count_within (b + 1) c.requires.0 (omega arith), c.requires.0.loaded.bounds.blocks),
-    )
+  c.requires.0,
+  omega arith,
+  omega (arith, count_next c.args.words.now b, count_within (b + 1) c.requires.0 (omega arith), c.requires.0.loaded.bounds.blocks),
+)
 
 pub overflow_add-block : goal.overflow_add-block
 overflow_add-block c = omega (arith, c.requires.0.loaded.bounds)
 
 pub loop-block-preserved : goal.loop-block-preserved
 loop-block-preserved c = (
-      omega arith,
-      omega (arith, count_next c.args.words.now c.loop-block.block),
-      omega arith,
-      blocks_more _ _ _ c.loop-block.invariant.3 c.block_lines-next.ensures.0,
-    )
+  omega arith,
+  omega (arith, count_next c.args.words.now c.loop-block.block),
+  omega arith,
+  blocks_more _ _ _ c.loop-block.invariant.3 c.block_lines-next.ensures.0,
+)
 
 pub returns : goal.returns
 returns c = let e : c.loop-block.block ≡ get_or c.args.words.now blocks_word 0 = omega arith in (
-      blocks_all _ _ (rw e at c.loop-block.invariant.3),
-      omega (arith, count_within c.loop-block.block c.requires.0 (omega arith), c.requires.0.loaded.bounds.blocks),
-    )
+  blocks_all _ _ (rw e at c.loop-block.invariant.3),
+  omega (arith, count_within c.loop-block.block c.requires.0 (omega arith), c.requires.0.loaded.bounds.blocks),
+)

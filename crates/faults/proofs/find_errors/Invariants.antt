@@ -1,17 +1,13 @@
 -- `find_errors` meets its contract: the pass has been over the blocks so far, at most a fault's line a step and a line a block, and the
 -- blocks left get fewer; a sheet has at most `max_steps` steps and `max_blocks` blocks, so there is room for the next block's lines.
-use mathlib.Core.Path.{◌≡◌, refl}
+use mathlib.Core.Path.{◌≡◌}
 use Prim.Native.Nat.{◌+◌, ◌*◌, ◌-◌, ◌≤◌}
-use native.Mathlib.Omega.{arith}
-use lib.ListN.{length, get_or}
+use lib.ListN.{length}
 use Rattle.paper.specs.Limits.{longest_fault_line, longest_unreached_line}
 use Rattle.paper.specs.Report.{block_entries, by_block}
-use Rattle.layout.specs.Layout.{blocks_word}
 use Rattle.loaded.specs.Loaded.{sheet_of}
 use Rattle.faults.specs.Passes.{AfterPass}
 use Rattle.faults.proofs.LawsFaults.{count_from}
-use Rattle.faults.proofs.LawsBlock.{count_next, count_within, blocks_none, blocks_more, blocks_all}
-use borrow.Author.Rules.{rules}
 use Rattle.faults.proofs.find_errors.Given as goal
 
 abbrev pub invariant-loop-block : goal.invariant-loop-block

@@ -1,15 +1,14 @@
-use mathlib.Core.Path.{◌≡◌, sym, ap, ◌∙◌}
+use mathlib.Core.Path.{sym, ap, ◌∙◌}
 use mathlib.Core.List.{List}
-use Prim.Native.Nat.{ℕ, ◌+◌, ◌-◌, ◌≤◌}
+use Prim.Native.Nat.{ℕ, ◌+◌}
 use native.Mathlib.Omega.{arith}
-use Rattle.paper.specs.Report.{Line, missing_from}
-use Rattle.loaded.specs.Actions.{step_of, action_at, steps_at}
-use Rattle.loaded.specs.Loaded.{first_step, step_total}
+use Rattle.paper.specs.Report.{Line}
+use Rattle.loaded.specs.Actions.{step_of, action_at}
+use Rattle.loaded.specs.Loaded.{first_step}
 use Rattle.loaded.specs.Blocks.{steps_in_words}
 use Rattle.faults.specs.Missing.{step_lines, missing_lines}
-use Rattle.faults.proofs.LawsBlock.{BlockWithin, block_within, room_at}
-use Rattle.faults.proofs.LawsMissing.{left, missing_start, missing_here, missing_later, missing_ended}
-use borrow.Author.Rules.{rules}
+use Rattle.faults.proofs.LawsBlock.{block_within, room_at}
+use Rattle.faults.proofs.LawsMissing.{missing_start, missing_here, missing_later, missing_ended}
 use Rattle.faults.proofs.find_in_block.Goals as goal
 
 pub first_step-first-requires : goal.first_step-first-requires

@@ -1,17 +1,11 @@
 -- `find_in_block` meets its contract: what is missing in the block is what is missing from `place` on, and `count - place` falls;
 -- of the steps that have something missing the first alone is reported, so it ends the search.
-use mathlib.Core.Path.{◌≡◌, sym, ap, ◌∙◌}
-use mathlib.Core.List.{List}
-use Prim.Native.Nat.{ℕ, ◌+◌, ◌-◌, ◌≤◌}
-use native.Mathlib.Omega.{arith}
-use Rattle.paper.specs.Report.{Line, missing_from}
-use Rattle.loaded.specs.Actions.{step_of, action_at, steps_at}
+use mathlib.Core.Path.{◌≡◌}
+use Prim.Native.Nat.{◌-◌, ◌≤◌}
+use Rattle.paper.specs.Report.{missing_from}
+use Rattle.loaded.specs.Actions.{steps_at}
 use Rattle.loaded.specs.Loaded.{first_step, step_total}
-use Rattle.loaded.specs.Blocks.{steps_in_words}
-use Rattle.faults.specs.Missing.{step_lines, missing_lines}
-use Rattle.faults.proofs.LawsBlock.{BlockWithin, block_within, room_at}
-use Rattle.faults.proofs.LawsMissing.{left, missing_start, missing_here, missing_later, missing_ended}
-use borrow.Author.Rules.{rules}
+use Rattle.faults.proofs.LawsMissing.{left}
 use Rattle.faults.proofs.find_in_block.Given as goal
 
 abbrev pub invariant-loop-place : goal.invariant-loop-place

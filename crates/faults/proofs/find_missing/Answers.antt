@@ -1,13 +1,9 @@
-use mathlib.Core.Path.{◌≡◌, refl, sym, ◌∙◌}
-use Prim.Native.Nat.{◌-◌, ◌≤◌}
+use mathlib.Core.Path.{refl, sym, ◌∙◌}
 use native.Mathlib.Omega.{arith}
-use lib.ListN.{get_or}
-use Rattle.layout.specs.Layout.{blocks_word}
-use Rattle.paper.specs.Report.{missing_blocks, missing_allocations}
+use Rattle.paper.specs.Report.{missing_allocations}
 use Rattle.loaded.specs.Loaded.{sheet_of}
 use Rattle.faults.specs.Missing.{missing_lines}
 use Rattle.faults.proofs.LawsMissing.{blocks_start, block_here, block_later, blocks_ended, some_lines, no_lines_found}
-use borrow.Author.Rules.{rules}
 use Rattle.faults.proofs.find_missing.Goals as goal
 
 pub blocks-count-requires : goal.blocks-count-requires

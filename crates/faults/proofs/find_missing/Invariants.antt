@@ -1,15 +1,11 @@
 -- `find_missing` meets its contract: what is missing in the sheet is what is missing from `block` on, and the blocks left get
 -- fewer; the first block that has something missing gives all that is reported.
-use mathlib.Core.Path.{◌≡◌, refl, sym, ◌∙◌}
+use mathlib.Core.Path.{◌≡◌}
 use Prim.Native.Nat.{◌-◌, ◌≤◌}
-use native.Mathlib.Omega.{arith}
 use lib.ListN.{get_or}
 use Rattle.layout.specs.Layout.{blocks_word}
 use Rattle.paper.specs.Report.{missing_blocks, missing_allocations}
 use Rattle.loaded.specs.Loaded.{sheet_of}
-use Rattle.faults.specs.Missing.{missing_lines}
-use Rattle.faults.proofs.LawsMissing.{blocks_start, block_here, block_later, blocks_ended, some_lines, no_lines_found}
-use borrow.Author.Rules.{rules}
 use Rattle.faults.proofs.find_missing.Given as goal
 
 abbrev pub invariant-loop-block : goal.invariant-loop-block

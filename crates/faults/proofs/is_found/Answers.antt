@@ -1,6 +1,5 @@
 -- `is_found` meets its contract: one answer for each case.
 use Rattle.faults.specs.Missing.{is_found}
-use borrow.Author.Rules.{rules}
 use Rattle.faults.proofs.is_found.Goals as goal
 
 pub returns-in-Nothing : goal.returns-in-Nothing

@@ -5,7 +5,6 @@ use native.Mathlib.Omega.{arith}
 use Rattle.report.specs.Lengths.{header_short}
 use Rattle.faults.proofs.LawsBlock.{faultless_lines}
 use Rattle.faults.proofs.LawsReported.{none_counted, errors_accepted, errors_faulty, entries_found}
-use borrow.Author.Rules.{rules}
 use Rattle.faults.proofs.write_errors.Goals as goal
 
 pub find_errors-count-requires : goal.find_errors-count-requires

@@ -2,25 +2,21 @@
 -- lines are all the report's: its missing uses, or, when none is missing, its missing defs.
 use mathlib.Core.Path.{◌≡◌, sym, ◌∙◌, subst}
 use mathlib.Core.Bool.{true, true≢false}
-use mathlib.Core.List.{List, [], ◌∷◌, map}
+use mathlib.Core.List.{List, [], ◌∷◌}
 use Prim.Native.Nat.{ℕ}
 use native.Mathlib.Omega.{arith}
 use denote.Enum.Declared.{tag_of}
 use types.Run.{OneOf, miss}
-use Rattle.paper.specs.Report.{fault_entry, missing_names, entries}
+use Rattle.paper.specs.Report.{missing_names}
 use Rattle.loaded.specs.contracts.Action.{the_type}
 use Rattle.loaded.specs.declared.Action.{Action}
 use Rattle.loaded.specs.declared.Action.TheVariants.{Copy, Change, Operation, Safepoint}
 use Rattle.loaded.specs.declared.CopyKind.TheVariants.{Spill, Reload, Move}
 use Rattle.loaded.specs.Actions.{copy_step, step_of, RoomFor}
 use Rattle.steps.specs.Faults.{some_in}
-use Rattle.loaded.specs.Loaded.{sheet_of}
-use Rattle.report.specs.Lines.{PositionWithin}
-use Rattle.faults.specs.Missing.{step_lines}
 use borrow.Enum.Refused.{opened}
 use Rattle.faults.proofs.LawsBlock.{room_at}
 use Rattle.faults.proofs.LawsMissing.{entries_missing, lines_of_uses, lines_of_defs, some_defs}
-use borrow.Author.Rules.{rules}
 use Rattle.faults.proofs.write_missing.Goals as goal
 
 -- no other step has operands
@@ -40,8 +36,11 @@ pub returns-in_default : goal.returns-in_default
 returns-in_default c = absurd (other c.args.words.now c.action_at.result (opened c.in_default.in_default-own.keys2) (rw c.action_at.ensures c.requires.1.within.3))
 
 pub missing_among-requires : goal.missing_among-requires
-missing_among-requires c = omega (arith, (subst (λ (a : Action). RoomFor a c.args.words.now) (sym c.action_at.ensures ∙ c.in-Operation.is)
-    (room_at c.requires.0 c.args.k c.requires.1.within.2)))
+missing_among-requires c = omega (
+  arith,
+  (subst (λ (a : Action). RoomFor a c.args.words.now) (sym c.action_at.ensures ∙ c.in-Operation.is)
+      (room_at c.requires.0 c.args.k c.requires.1.within.2)),
+)
 
 pub write_missing_among-requires : goal.write_missing_among-requires
 write_missing_among-requires c = let r = (subst (λ (a : Action). RoomFor a c.args.words.now) (sym c.action_at.ensures ∙ c.in-Operation.is)
@@ -52,8 +51,11 @@ pub returns-then-missing_among : goal.returns-then-missing_among
 returns-then-missing_among c = rw ((rw (sym c.action_at.ensures ∙ c.in-Operation.is) at (entries_missing c.args.rule c.args.words.now c.args.block c.args.place c.args.k c.requires.1)), lines_of_uses _ _ _ _ _ _ _ (sym c.missing_among.ensures ∙ c.if-missing_among.true)) c.write_missing_among.ensures
 
 pub overflow_add-at : goal.overflow_add-at
-overflow_add-at c = omega (arith, (subst (λ (a : Action). RoomFor a c.args.words.now) (sym c.action_at.ensures ∙ c.in-Operation.is)
-    (room_at c.requires.0 c.args.k c.requires.1.within.2)))
+overflow_add-at c = omega (
+  arith,
+  (subst (λ (a : Action). RoomFor a c.args.words.now) (sym c.action_at.ensures ∙ c.in-Operation.is)
+      (room_at c.requires.0 c.args.k c.requires.1.within.2)),
+)
 
 pub write_missing_among-requires-2 : goal.write_missing_among-requires-2
 write_missing_among-requires-2 c = let r = (subst (λ (a : Action). RoomFor a c.args.words.now) (sym c.action_at.ensures ∙ c.in-Operation.is)

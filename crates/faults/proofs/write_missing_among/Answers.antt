@@ -1,13 +1,8 @@
 -- `write_missing_among` meets its contract: the header counts the lines, and there is one at least, so the sheet is faulty; a
 -- header and eight lines fit.
-use Prim.Native.Nat.{◌≤◌}
 use native.Mathlib.Omega.{arith}
-use lib.ListN.{length}
-use Rattle.paper.specs.Limits.{longest_header}
-use Rattle.paper.specs.Report.{header_text}
 use Rattle.report.specs.Lengths.{header_short}
 use Rattle.faults.proofs.LawsReported.{reported_names}
-use borrow.Author.Rules.{rules}
 use Rattle.faults.proofs.write_missing_among.Goals as goal
 
 pub write_header-next-requires : goal.write_header-next-requires

@@ -1,14 +1,6 @@
 use mathlib.Core.Path.{◌≡◌, refl}
-use Prim.Native.Nat.{◌+◌, ◌*◌, ◌-◌, ◌≤◌}
 use native.Mathlib.Omega.{arith}
-use lib.ListN.{length}
-use Rattle.lists.specs.Sets.{Wrote}
-use Rattle.paper.specs.Limits.{longest_fault_line}
-use Rattle.paper.specs.Report.{unallocated, lines_text}
-use Rattle.loaded.specs.Actions.{operands}
-use Rattle.faults.specs.Errors.{names_at}
 use Rattle.faults.proofs.LawsOperands.{wrote_none, wrote_more}
-use borrow.Author.Rules.{rules}
 use Rattle.faults.proofs.write_names.Goals as goal
 
 pub loop-i-init : goal.loop-i-init

@@ -1,16 +1,13 @@
 -- `write_names` meets its contract: after i turns the lines of the first i operands are written, at most 32 bytes for each, and
 -- `n - i` falls.
-use mathlib.Core.Path.{◌≡◌, refl}
+use mathlib.Core.Path.{◌≡◌}
 use Prim.Native.Nat.{◌+◌, ◌*◌, ◌-◌, ◌≤◌}
-use native.Mathlib.Omega.{arith}
 use lib.ListN.{length}
 use Rattle.lists.specs.Sets.{Wrote}
 use Rattle.paper.specs.Limits.{longest_fault_line}
 use Rattle.paper.specs.Report.{unallocated, lines_text}
 use Rattle.loaded.specs.Actions.{operands}
 use Rattle.faults.specs.Errors.{names_at}
-use Rattle.faults.proofs.LawsOperands.{wrote_none, wrote_more}
-use borrow.Author.Rules.{rules}
 use Rattle.faults.proofs.write_names.Given as goal
 
 abbrev pub invariant-loop-i : goal.invariant-loop-i

@@ -3,7 +3,6 @@ use mathlib.Core.Path.{refl}
 use native.Mathlib.Omega.{arith}
 use Rattle.faults.proofs.LawsFields.{missing_short}
 use Rattle.faults.proofs.LawsOperands.{line_missing, no_line_missing}
-use borrow.Author.Rules.{rules}
 use Rattle.faults.proofs.write_operand.Goals as goal
 
 pub returns-then-operand-ne-NO_REGISTER : goal.returns-then-operand-ne-NO_REGISTER

@@ -1,16 +1,10 @@
 use mathlib.Core.Path.{◌≡◌, refl}
-use mathlib.Core.Logic.{⊎_elim}
-use Prim.Native.Nat.{◌+◌, ◌*◌, ◌-◌, ◌≤◌}
 use native.Mathlib.Omega.{arith}
-use lib.ListN.{length, get_or}
-use Rattle.lists.specs.Sets.{Wrote}
-use Rattle.paper.specs.Limits.{longest_unreached_line}
-use Rattle.paper.specs.Report.{lines_text}
+use lib.ListN.{get_or}
 use Rattle.layout.specs.Layout.{blocks_word}
 use Rattle.report.specs.Lengths.{unreached_short}
 use Rattle.faults.specs.Reported.{unmarked_lines}
-use Rattle.faults.proofs.LawsBlock.{unmarked_to, unmarked_none, unmarked_skipped, unmarked_more}
-use borrow.Author.Rules.{rules}
+use Rattle.faults.proofs.LawsBlock.{unmarked_none, unmarked_skipped, unmarked_more}
 use Rattle.faults.proofs.write_unmarked.Goals as goal
 use Rattle.faults.proofs.write_unmarked.Goals.{then-words-block-eq0, else-words-block-eq0}
 
@@ -38,13 +32,13 @@ loop-block-preserved c = let b = c.loop-block.block in
     let words = c.args.words.now in
     let few = c.requires.0.bounds.blocks in
     elim c.if-words-block-eq0.branch [
-      then-words-block-eq0 w ↦ rw (w.report-is, w.next-is) (
+      | then-words-block-eq0 w ↦ rw (w.report-is, w.next-is) (
         omega arith,
         omega (arith, w.write_unreached-next.ensures, unreached_short b (omega (arith, few))),
         omega arith,
         unmarked_more words b c.loop-block.invariant.3 w.if-words-block-eq0.true w.write_unreached-next.ensures,
       )
-    | else-words-block-eq0 w ↦ rw (w.report-is, w.next-is) (omega arith, omega arith, c.loop-block.invariant.2, unmarked_skipped words b c.loop-block.invariant.3 w.if-words-block-eq0.false)
+      | else-words-block-eq0 w ↦ rw (w.report-is, w.next-is) (omega arith, omega arith, c.loop-block.invariant.2, unmarked_skipped words b c.loop-block.invariant.3 w.if-words-block-eq0.false)
     ]
 
 pub returns : goal.returns

@@ -1,5 +1,4 @@
 -- `action_at` meets its contract: one case for each tag; every tag above 5 is no step's (`last_tag`).
-use borrow.Author.Rules.{rules}
 use Rattle.loaded.specs.Actions.{action_at, action_of}
 use Rattle.loaded.proofs.LawsPacking.{last_tag}
 use Rattle.loaded.proofs.action_at.Goals as goal

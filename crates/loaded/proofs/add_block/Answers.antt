@@ -8,7 +8,6 @@ use Rattle.lists.specs.Over.{length_over}
 use Rattle.layout.specs.Layout.{opened_word}
 use Rattle.loaded.proofs.LawsBody.{block_stored, block_written}
 use native.Mathlib.Omega.{arith}
-use borrow.Author.Rules.{rules}
 use Rattle.loaded.proofs.add_block.Goals as goal
 
 pub bounds-words-at-2 : goal.bounds-words-at-2

@@ -1,12 +1,7 @@
 -- `add_operation` meets its contract: the operands of the next step are stored where nothing is read yet, so that the words mean the
 -- sheet that they meant (`begun_still`) and the action finds them there (`operation_fits`, `operation_stored`).
-use mathlib.Core.Path.{◌≡◌, ap}
-use native.Mathlib.Omega.{arith}
-use borrow.Author.Rules.{rules}
-use lib.ListN.{length}
-use Rattle.paper.specs.Sheet.{operation}
+use mathlib.Core.Path.{ap}
 use Rattle.paper.specs.Refusals.{step_record}
-use Rattle.layout.specs.Layout.{steps_word, operand_words}
 use Rattle.loaded.proofs.LawsOperands.{operands_room, begun_still, counts_still, stored_from, operation_stored, operation_fits}
 use Rattle.loaded.proofs.add_operation.Goals as goal
 

@@ -6,7 +6,6 @@ use lib.ListN.{get_or, length-set}
 use Rattle.loaded.proofs.LawsBody.{step_stored, step_written}
 use native.Mathlib.Omega.{arith}
 use Rattle.layout.specs.Layout.{opened_word, block_base, step_total_word, block_words}
-use borrow.Author.Rules.{rules}
 use Rattle.loaded.proofs.add_step.Goals as goal
 
 pub overflow_add-words : goal.overflow_add-words

@@ -3,7 +3,6 @@ use native.Mathlib.Omega.{arith}
 use mathlib.Core.Path.{refl}
 use lib.ListN.{length-set}
 use Rattle.loaded.proofs.LawsHeader.{typed_stored}
-use borrow.Author.Rules.{rules}
 use Rattle.loaded.proofs.add_typed.Goals as goal
 
 pub bounds-words-7 : goal.bounds-words-7

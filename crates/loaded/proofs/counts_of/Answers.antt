@@ -1,5 +1,4 @@
 -- `counts_of` meets its contract: each field is its word, and the cast keeps it.
-use borrow.Author.Rules.{rules}
 use Rattle.loaded.proofs.counts_of.Goals as goal
 
 pub returns : goal.returns

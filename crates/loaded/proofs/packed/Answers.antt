@@ -1,5 +1,4 @@
 -- `packed` meets its contract: one case for each kind of step; `Packs` keeps the two numbers of its first word below 64.
-use borrow.Author.Rules.{rules}
 use native.Mathlib.Omega.{arith}
 use Rattle.loaded.specs.Actions.{packed}
 use Rattle.loaded.proofs.packed.Goals as goal

@@ -1,5 +1,4 @@
 -- `progress` meets its contract: each field is its word, and the cast keeps it.
-use borrow.Author.Rules.{rules}
 use Rattle.loaded.proofs.progress.Goals as goal
 
 pub returns : goal.returns

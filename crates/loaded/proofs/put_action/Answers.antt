@@ -1,10 +1,9 @@
 use mathlib.Core.Path.{◌≡◌, refl, sym}
-use Prim.Native.Nat.{◌≤◌, ◌-◌}
 use native.Mathlib.Omega.{arith}
 use Rattle.layout.specs.Layout.{step_words}
 use borrow.Author.Rules.{rules}
-use lib.ListN.{length, get_or, length-set}
-use Rattle.lists.specs.Over.{over, over_none, over_step}
+use lib.ListN.{length-set}
+use Rattle.lists.specs.Over.{over_none, over_step}
 use Rattle.loaded.proofs.LawsPacking.{written}
 use Rattle.loaded.proofs.put_action.Goals as goal
 

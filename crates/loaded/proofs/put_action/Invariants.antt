@@ -1,13 +1,10 @@
 -- `put_action` meets its contract: before each turn the first i of the step's words are those of `packed`, the others as they were,
 -- and 4 - i falls; taken apart, the four words are the step again (`written`).
-use mathlib.Core.Path.{◌≡◌, refl, sym}
+use mathlib.Core.Path.{◌≡◌}
 use Prim.Native.Nat.{◌≤◌, ◌-◌}
-use native.Mathlib.Omega.{arith}
 use Rattle.layout.specs.Layout.{step_words}
-use borrow.Author.Rules.{rules}
-use lib.ListN.{length, get_or, length-set}
-use Rattle.lists.specs.Over.{over, over_none, over_step}
-use Rattle.loaded.proofs.LawsPacking.{written}
+use lib.ListN.{length, get_or}
+use Rattle.lists.specs.Over.{over}
 use Rattle.loaded.proofs.put_action.Given as goal
 
 abbrev pub invariant-loop-i : goal.invariant-loop-i

@@ -1,7 +1,5 @@
 -- `rows_of` meets its contract: one case for each kind of copy.
-use mathlib.Core.Path.{refl}
 use Rattle.loaded.specs.Actions.{rows_of}
-use borrow.Author.Rules.{rules}
 use Rattle.loaded.proofs.rows_of.Goals as goal
 
 pub returns-in-Spill : goal.returns-in-Spill

@@ -3,7 +3,6 @@ use native.Mathlib.Omega.{arith}
 use mathlib.Core.Path.{refl}
 use lib.ListN.{length-set}
 use Rattle.loaded.proofs.LawsHeader.{function_stored}
-use borrow.Author.Rules.{rules}
 use Rattle.loaded.proofs.store_function.Goals as goal
 
 pub bounds-words-1 : goal.bounds-words-1

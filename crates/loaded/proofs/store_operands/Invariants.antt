@@ -1,9 +1,8 @@
 -- `store_operands` meets its contract: from `at` on the first `i` of the 16 words stand, one more each turn.
-use mathlib.Core.Path.{◌≡◌, refl, sym}
+use mathlib.Core.Path.{◌≡◌}
 use Prim.Native.Nat.{◌≤◌, ◌-◌}
-use native.Mathlib.Omega.{arith}
-use lib.ListN.{length, get_or, length-set}
-use Rattle.lists.specs.Over.{over, over_none, over_step}
+use lib.ListN.{length, get_or}
+use Rattle.lists.specs.Over.{over}
 use Rattle.layout.specs.Layout.{operand_words}
 use Rattle.loaded.proofs.store_operands.Given as goal
 

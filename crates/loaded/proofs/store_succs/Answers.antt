@@ -1,8 +1,7 @@
 use mathlib.Core.Path.{◌≡◌, refl, sym}
-use Prim.Native.Nat.{◌≤◌, ◌-◌}
 use native.Mathlib.Omega.{arith}
-use lib.ListN.{length, get_or, length-set}
-use Rattle.lists.specs.Over.{over, over_none, over_step}
+use lib.ListN.{length-set}
+use Rattle.lists.specs.Over.{over_none, over_step}
 use Rattle.loaded.proofs.store_succs.Goals as goal
 
 pub loop-i-init : goal.loop-i-init

@@ -1,10 +1,9 @@
 -- `store_succs` meets its contract: from `at` on the first `i` successors stand, one more each turn; each is below 65,536,
 -- so it fits the cast.
-use mathlib.Core.Path.{◌≡◌, refl, sym}
+use mathlib.Core.Path.{◌≡◌}
 use Prim.Native.Nat.{◌≤◌, ◌-◌}
-use native.Mathlib.Omega.{arith}
-use lib.ListN.{length, get_or, length-set}
-use Rattle.lists.specs.Over.{over, over_none, over_step}
+use lib.ListN.{length, get_or}
+use Rattle.lists.specs.Over.{over}
 use Rattle.loaded.proofs.store_succs.Given as goal
 
 abbrev pub invariant-loop-i : goal.invariant-loop-i

@@ -2,7 +2,6 @@
 use mathlib.Core.Path.{refl}
 use native.Mathlib.Omega.{arith}
 use Rattle.loaded.specs.Actions.{tag_of}
-use borrow.Author.Rules.{rules}
 use Rattle.loaded.proofs.tag_of.Goals as goal
 
 pub returns-in-Spill : goal.returns-in-Spill

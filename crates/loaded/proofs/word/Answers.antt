@@ -1,7 +1,6 @@
 -- `word` meets its contract: a word has 16 bits, so the cast keeps its number.
 use mathlib.Core.Path.{refl}
 use native.Mathlib.Omega.{arith}
-use borrow.Author.Rules.{rules}
 use Rattle.loaded.proofs.word.Goals as goal
 
 pub overflow_cast-result : goal.overflow_cast-result

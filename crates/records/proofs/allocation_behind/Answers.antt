@@ -2,7 +2,6 @@
 use mathlib.Core.Path.{sym, ◌∙◌}
 use Rattle.fields.specs.Told.{allocation_refused}
 use Rattle.records.proofs.LawsPlaces.{no_field, refused, register_next, no_register_next}
-use borrow.Author.Rules.{rules}
 use Rattle.records.proofs.allocation_behind.Goals as goal
 
 pub returns-then-s-at-ne9 : goal.returns-then-s-at-ne9

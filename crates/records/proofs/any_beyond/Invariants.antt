@@ -1,15 +1,9 @@
 -- `records::any_beyond` meets its contract: the numbers from `i` on tell what the first `count` do; one fewer is left each turn.
-use mathlib.Core.Path.{◌≡◌, refl, sym, ◌∙◌}
-use Prim.Native.Nat.{◌-◌, ◌≤◌}
-use native.Mathlib.Omega.{arith}
-use borrow.Author.Tests.{le-leb, lt-leb}
+use mathlib.Core.Path.{◌≡◌}
+use Prim.Native.Nat.{◌-◌}
 use lib.Dec.{leb}
-use lib.ListN.{length, take, drop}
+use lib.ListN.{take, drop}
 use Rattle.paper.specs.Refusals.{any}
-use Rattle.records.proofs.LawsSearch.{any_past, any_here, any_on}
-use borrow.Author.Rules.{rules}
-use Rattle.records.proofs.any_beyond.Reads as reads
-use Rattle.records.proofs.any_beyond.Lts as lts
 use Rattle.records.proofs.any_beyond.Given as goal
 
 abbrev pub invariant-loop-i : goal.invariant-loop-i

@@ -1,10 +1,5 @@
-use mathlib.Core.Path.{◌≡◌, refl, sym, ◌∙◌}
-use Prim.Native.Nat.{◌-◌}
-use lib.ListN.{drop}
-use Rattle.paper.specs.Refusals.{any, elsewhere}
-use Rattle.records.specs.Parts.{held}
+use mathlib.Core.Path.{refl, sym, ◌∙◌}
 use Rattle.records.proofs.LawsGroups.{held_past, held_here, held_on}
-use borrow.Author.Rules.{rules}
 use Rattle.records.proofs.any_elsewhere.Goals as goal
 
 pub loop-i-init : goal.loop-i-init

@@ -1,11 +1,9 @@
 -- `records::any_elsewhere` meets its contract: the operands from `i` on tell what all of them do; one fewer is left each turn.
-use mathlib.Core.Path.{◌≡◌, refl, sym, ◌∙◌}
+use mathlib.Core.Path.{◌≡◌}
 use Prim.Native.Nat.{◌-◌}
 use lib.ListN.{drop}
 use Rattle.paper.specs.Refusals.{any, elsewhere}
 use Rattle.records.specs.Parts.{held}
-use Rattle.records.proofs.LawsGroups.{held_past, held_here, held_on}
-use borrow.Author.Rules.{rules}
 use Rattle.records.proofs.any_elsewhere.Given as goal
 
 abbrev pub invariant-loop-i : goal.invariant-loop-i

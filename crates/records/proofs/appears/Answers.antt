@@ -1,12 +1,7 @@
-use mathlib.Core.Path.{◌≡◌, refl, sym, ◌∙◌}
-use Prim.Native.Nat.{◌-◌, ◌≤◌}
+use mathlib.Core.Path.{refl, sym, ◌∙◌}
 use native.Mathlib.Omega.{arith}
 use borrow.Author.Tests.{eq-eqb, ne_eqb}
-use lib.Dec.{eqb}
-use lib.ListN.{length, take, drop}
-use Rattle.paper.specs.Refusals.{any}
 use Rattle.records.proofs.LawsSearch.{any_past, any_here, any_on}
-use borrow.Author.Rules.{rules}
 use Rattle.records.proofs.appears.Goals as goal
 
 pub loop-i-init : goal.loop-i-init

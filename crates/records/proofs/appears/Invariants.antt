@@ -1,15 +1,9 @@
 -- `records::appears` meets its contract: the codes from `i` on tell what those from `from` on do; one fewer is left each turn.
-use mathlib.Core.Path.{◌≡◌, refl, sym, ◌∙◌}
-use Prim.Native.Nat.{◌-◌, ◌≤◌}
-use native.Mathlib.Omega.{arith}
-use borrow.Author.Tests.{eq-eqb, ne_eqb}
+use mathlib.Core.Path.{◌≡◌}
+use Prim.Native.Nat.{◌-◌}
 use lib.Dec.{eqb}
-use lib.ListN.{length, take, drop}
+use lib.ListN.{take, drop}
 use Rattle.paper.specs.Refusals.{any}
-use Rattle.records.proofs.LawsSearch.{any_past, any_here, any_on}
-use borrow.Author.Rules.{rules}
-use Rattle.records.proofs.appears.Reads as reads
-use Rattle.records.proofs.appears.Lts as lts
 use Rattle.records.proofs.appears.Given as goal
 
 abbrev pub invariant-loop-i : goal.invariant-loop-i

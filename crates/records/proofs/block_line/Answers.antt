@@ -1,16 +1,8 @@
 -- `records::block_line` meets its contract: at most 8 numbers are a `B`, to which of refusals 6 to 9 none applies; anything else is
 -- refusal 3. Where it passes each is below `F`'s count of blocks.
-use mathlib.Core.Path.{◌≡◌}
-use mathlib.Core.List.{List}
-use mathlib.Core.Option.{Option}
-use Prim.Native.Nat.{ℕ}
-use lib.ListN.{take}
-use Rattle.paper.specs.Sheet.{Sheet}
-use Rattle.paper.specs.Refusals.{block_record, so_far_of, first_holding, conditions}
-use Rattle.records.specs.Records.{judged_of, block_told, Ends, Placed, Counted}
+use Rattle.records.specs.Records.{block_told}
 use Rattle.records.proofs.LawsNumbers.{numbers_good}
 use Rattle.records.proofs.LawsTold.{clear_of, judged_by, ill_formed, breaks, passes, in_place, block_tested, block_says, block_bad, block_within}
-use borrow.Author.Rules.{rules}
 use Rattle.records.proofs.block_line.Goals as goal
 
 pub returns-in_default : goal.returns-in_default

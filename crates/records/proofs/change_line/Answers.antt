@@ -1,17 +1,9 @@
 -- `records::change_line` meets its contract: within the limits a name fits nine bits and its mark is that of `T`, so that the tests
 -- are those of refusals 5 and 8; beyond a limit 5 is the lowest, whatever the marks.
-use mathlib.Core.Path.{◌≡◌}
-use mathlib.Core.Option.{Option}
 use native.Mathlib.Omega.{arith}
-use Rattle.paper.specs.Sheet.{Sheet, Step, change}
-use Rattle.paper.specs.Refusals.{step_record, so_far_of, first_holding, conditions}
-use Rattle.records.specs.Records.{judged_of, change_line, name_of_code, Placed, Counted, TypedBy}
-use Rattle.records.specs.Parts.{ChangeRead}
-use Rattle.records.specs.declared.Change.TheVariants.{Value}
-use Rattle.records.specs.declared.Judged.TheVariants.{Passes}
+use Rattle.records.specs.Records.{change_line}
 use Rattle.records.proofs.LawsTold.{clear_of, judged_by, ill_formed, breaks, passes, in_place}
-use Rattle.records.proofs.LawsSteps.{ChangeInside, change_tested, change_clear, change_within}
-use borrow.Author.Rules.{rules}
+use Rattle.records.proofs.LawsSteps.{change_tested, change_clear, change_within}
 use Rattle.records.proofs.change_line.Goals as goal
 
 pub read_change-read-requires : goal.read_change-read-requires
@@ -32,21 +24,27 @@ name_word-requires-in-Passes c = (change_clear c.requires.2 _ _ _ _ c.name_beyon
 
 pub returns-in-Breaks : goal.returns-in-Breaks
 unfolding change_line
-returns-in-Breaks c = record { result_value = λ so p h t. breaks so (rw c.in-Value.is at c.read_change-read.ensures).0 (judged_by
-    (change_tested c.requires.2 _ _ _ _ c.name_beyond.ensures c.name_beyond-2.ensures (p _) h t
-    c.is_typed.ensures
-    c.is_typed-2.ensures)
-    c.lowest-judged.ensures) _ c.in-Breaks.is; clear = tt }
+returns-in-Breaks c = record {
+  result_value = λ so p h t. breaks so (rw c.in-Value.is at c.read_change-read.ensures).0 (judged_by
+      (change_tested c.requires.2 _ _ _ _ c.name_beyond.ensures c.name_beyond-2.ensures (p _) h t
+      c.is_typed.ensures
+      c.is_typed-2.ensures)
+      c.lowest-judged.ensures) _ c.in-Breaks.is;
+  clear = tt;
+}
 
 pub returns-in-Passes : goal.returns-in-Passes
 unfolding change_line
 returns-in-Passes c =
     let z = c.in-Passes.is in
     let g = (rw c.in-Value.is at c.read_change-read.ensures) in
-    let w = (change_clear c.requires.2 _ _ _ _ c.name_beyond.ensures c.name_beyond-2.ensures (clear_of c.lowest-judged.ensures z).within) in record { result_value = λ so p h t.
+    let w = (change_clear c.requires.2 _ _ _ _ c.name_beyond.ensures c.name_beyond-2.ensures (clear_of c.lowest-judged.ensures z).within) in record {
+      result_value = λ so p h t.
           rw (c.name_word.ensures, c.name_word-in-Passes.ensures, w.from_means, w.to_means)
           (passes so g.0 (judged_by
-    (change_tested c.requires.2 _ _ _ _ c.name_beyond.ensures c.name_beyond-2.ensures (p _) h t
-    c.is_typed.ensures
-    c.is_typed-2.ensures)
-    c.lowest-judged.ensures) z g.1.place); clear = (in_place g.1 (clear_of c.lowest-judged.ensures z), change_within w c.name_word.ensures c.name_word-in-Passes.ensures) }
+          (change_tested c.requires.2 _ _ _ _ c.name_beyond.ensures c.name_beyond-2.ensures (p _) h t
+          c.is_typed.ensures
+          c.is_typed-2.ensures)
+          c.lowest-judged.ensures) z g.1.place);
+      clear = (in_place g.1 (clear_of c.lowest-judged.ensures z), change_within w c.name_word.ensures c.name_word-in-Passes.ensures);
+    }

@@ -1,16 +1,10 @@
 -- `records::function_line` meets its contract: five numbers are an `F`, to which of refusals 6 to 9 none applies; anything else is
 -- refusal 3. Where it passes each value is within its limit.
-use mathlib.Core.Path.{◌≡◌}
-use mathlib.Core.Option.{Option}
-use lib.ListN.{get_or}
-use Prim.Native.Nat.{ℕ}
-use Rattle.paper.specs.Sheet.{Sheet}
-use Rattle.paper.specs.Refusals.{function_record, blank, so_far_of, first_holding, conditions}
-use Rattle.records.specs.Records.{judged_of, function_line, Ends, Placed}
+use Rattle.paper.specs.Refusals.{blank, so_far_of}
+use Rattle.records.specs.Records.{function_line}
 use Rattle.records.proofs.LawsNumbers.{exactly_good}
 use Rattle.records.proofs.LawsTold.{clear_of, judged_by, ill_formed, breaks, passes, in_place, function_tested, function_says, function_bad, function_within}
 use native.Mathlib.Omega.{arith}
-use borrow.Author.Rules.{rules}
 use Rattle.records.proofs.function_line.Goals as goal
 
 pub read_exactly-read-requires : goal.read_exactly-read-requires

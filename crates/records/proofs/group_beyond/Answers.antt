@@ -1,11 +1,7 @@
-use mathlib.Core.Path.{◌≡◌, refl, sym, ◌∙◌}
-use Prim.Native.Nat.{◌-◌}
+use mathlib.Core.Path.{refl, sym, ◌∙◌}
 use borrow.Author.Tests.{lt-ltb, le-ltb}
-use lib.ListN.{drop}
-use Rattle.paper.specs.Refusals.{any, operand_beyond}
-use Rattle.records.specs.Parts.{counted, held, group_over}
+use Rattle.records.specs.Parts.{group_over}
 use Rattle.records.proofs.LawsGroups.{held_past, held_here, held_on}
-use borrow.Author.Rules.{rules}
 use Rattle.records.proofs.group_beyond.Goals as goal
 
 pub returns-then-count-gt-MAX_OPERANDS : goal.returns-then-count-gt-MAX_OPERANDS

@@ -1,13 +1,10 @@
 -- `records::group_beyond` meets its contract: above 8 the count decides; else the operands from `i` on tell what the whole group
 -- does, and one fewer is left each turn.
-use mathlib.Core.Path.{◌≡◌, refl, sym, ◌∙◌}
+use mathlib.Core.Path.{◌≡◌}
 use Prim.Native.Nat.{◌-◌}
-use borrow.Author.Tests.{lt-ltb, le-ltb}
 use lib.ListN.{drop}
 use Rattle.paper.specs.Refusals.{any, operand_beyond}
-use Rattle.records.specs.Parts.{counted, held, group_over}
-use Rattle.records.proofs.LawsGroups.{held_past, held_here, held_on}
-use borrow.Author.Rules.{rules}
+use Rattle.records.specs.Parts.{counted, held}
 use Rattle.records.proofs.group_beyond.Given as goal
 
 abbrev pub invariant-loop-i : goal.invariant-loop-i

@@ -1,7 +1,6 @@
 -- `records::is_typed` meets its contract: one case below 256, where a virtual name has its word, and one from there on.
 use borrow.Author.Tests.{lt-ltb, le-ltb}
 use Rattle.records.specs.Parts.{is_typed}
-use borrow.Author.Rules.{rules}
 use Rattle.records.proofs.is_typed.Goals as goal
 
 pub returns-then-name-lt-MAX_VREGS : goal.returns-then-name-lt-MAX_VREGS

@@ -2,7 +2,6 @@
 -- all of the mask's, so it comes last of the set bits and the sum fits 32 bits.
 use native.Mathlib.Omega.{arith}
 use Rattle.records.proofs.LawsSlots.{one_bit, fits_mask, slot_beyond, slot_disorder, slot_listed}
-use borrow.Author.Rules.{rules}
 use Rattle.records.proofs.list_slot.Goals as goal
 
 pub returns-then-slots-slot : goal.returns-then-slots-slot

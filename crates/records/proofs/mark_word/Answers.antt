@@ -1,7 +1,6 @@
 -- `records::mark_word` meets its contract: one case for each answer of `is_typed`.
 use mathlib.Core.Path.{sym, ◌∙◌}
 use Rattle.records.specs.Parts.{mark_word}
-use borrow.Author.Rules.{rules}
 use Rattle.records.proofs.mark_word.Goals as goal
 
 pub returns-then-is_typed : goal.returns-then-is_typed

@@ -4,7 +4,6 @@ use mathlib.Core.Path.{sym, ◌∙◌}
 use native.Mathlib.Omega.{arith}
 use Rattle.fields.specs.Told.{name_refused}
 use Rattle.records.proofs.LawsPlaces.{no_field, refused, real_next, virtual_next}
-use borrow.Author.Rules.{rules}
 use Rattle.records.proofs.name_behind.Goals as goal
 
 pub returns-then-s-at-ne9 : goal.returns-then-s-at-ne9

@@ -2,7 +2,6 @@
 use native.Mathlib.Omega.{arith}
 use borrow.Author.Tests.{lt-ltb, le-ltb}
 use Rattle.records.specs.Parts.{name_word}
-use borrow.Author.Rules.{rules}
 use Rattle.records.proofs.name_word.Goals as goal
 
 pub overflow_cast-result : goal.overflow_cast-result

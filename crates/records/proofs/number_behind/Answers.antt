@@ -2,7 +2,6 @@
 -- is told of the line (`number_next`).
 use mathlib.Core.Path.{sym}
 use Rattle.records.proofs.LawsPlaces.{no_field, number_next}
-use borrow.Author.Rules.{rules}
 use Rattle.records.proofs.number_behind.Goals as goal
 
 pub returns-then-s-at-ne9 : goal.returns-then-s-at-ne9

@@ -1,6 +1,5 @@
 -- `records::operand_behind` meets its contract: a name and the allocation behind it make an operand; without either there is none.
 use Rattle.records.proofs.LawsOperands.{no_name, no_allocation, operand_taken}
-use borrow.Author.Rules.{rules}
 use Rattle.records.proofs.operand_behind.Goals as goal
 
 pub returns-in_default : goal.returns-in_default

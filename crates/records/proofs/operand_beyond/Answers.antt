@@ -1,6 +1,5 @@
 -- `records::operand_beyond` meets its contract: `name_beyond` tells of the name; a register is held against `regs`, `-` is none.
 use Rattle.records.proofs.LawsGroups.{operand_limit}
-use borrow.Author.Rules.{rules}
 use Rattle.records.proofs.operand_beyond.Goals as goal
 
 pub returns : goal.returns

@@ -2,7 +2,6 @@
 use native.Mathlib.Omega.{arith}
 use Rattle.records.specs.Parts.{word}
 use Rattle.records.proofs.LawsWords.{mark_most}
-use borrow.Author.Rules.{rules}
 use Rattle.records.proofs.operand_word.Goals as goal
 
 pub overflow_add-result : goal.overflow_add-result

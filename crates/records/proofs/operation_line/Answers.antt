@@ -1,21 +1,14 @@
 -- `records::operation_line` meets its contract: a bad field, or one too many, is refusal 3; where it passes each group has at most 8
 -- operands within the limits, so its words mean them, and the uses' words end before the defs' begin.
-use mathlib.Core.Path.{◌≡◌, sym, ◌∙◌}
-use mathlib.Core.Option.{Option}
+use mathlib.Core.Path.{sym, ◌∙◌}
 use native.Mathlib.Omega.{arith}
 use lib.ListN.{replicate}
-use Rattle.fields.specs.declared.Number.TheVariants.{Value}
-use Rattle.paper.specs.Sheet.{Sheet, Step, operation}
-use Rattle.paper.specs.Refusals.{step_record, so_far_of, first_holding, conditions}
-use Rattle.records.specs.Records.{judged_of, operation_told, NumberBehind, Placed, Counted}
-use Rattle.records.specs.Parts.{GroupRead, Unbroken}
-use Rattle.records.specs.declared.Judged.TheVariants.{Passes}
+use Rattle.records.specs.Records.{operation_told}
 use Rattle.records.proofs.LawsTold.{ill_formed, breaks, passes}
 use Rattle.records.proofs.LawsOperands.{group_good, group_ill}
 use Rattle.records.proofs.LawsGroups.{held_all, group_few, group_within}
 use Rattle.records.proofs.LawsWords.{small_within, packed, packed_kept, packed_means, packed_within}
 use Rattle.records.proofs.LawsSteps.{operation_no_inst, operation_no_uses, operation_no_defs, operation_too_long, operation_says, operation_ends}
-use borrow.Author.Rules.{rules}
 use Rattle.records.proofs.operation_line.Goals as goal
 
 pub number_behind-requires : goal.number_behind-requires
@@ -86,9 +79,12 @@ returns-in-Passes c =
     let w = c.requires.2 in
     let pu = packed_kept 8 _ _ (omega arith) c.pack-in-Passes.ensures (packed (replicate 16 0) (omega arith) c.pack.ensures) in
     let pd = packed c.pack.result (omega arith) c.pack-in-Passes.ensures in
-    let ends = operation_ends i (group_good c.read_operands-uses.ensures c.in-Good.is) (group_good c.read_operands-defs.ensures c.in-Good-defs_form.is) c.if-s-next-ne10.false in record { result_value = λ so p h.
+    let ends = operation_ends i (group_good c.read_operands-uses.ensures c.in-Good.is) (group_good c.read_operands-defs.ensures c.in-Good-defs_form.is) c.if-s-next-ne10.false in record {
+      result_value = λ so p h.
           rw (packed_means w ku.room few-uses within-uses pu ∙ sym (held_all ku few-uses), packed_means w kd.room few-defs within-defs pd ∙ sym (held_all kd few-defs))
-          (passes so (operation_says i (group_good c.read_operands-uses.ensures c.in-Good.is) (group_good c.read_operands-defs.ensures c.in-Good-defs_form.is) c.if-s-next-ne10.false) (c.judge_operation-judged.ensures.value so _ _ p h (group_good c.read_operands-uses.ensures c.in-Good.is).kept (group_good c.read_operands-defs.ensures c.in-Good-defs_form.is).kept) z ends.place); clear = (
+          (passes so (operation_says i (group_good c.read_operands-uses.ensures c.in-Good.is) (group_good c.read_operands-defs.ensures c.in-Good-defs_form.is) c.if-s-next-ne10.false) (c.judge_operation-judged.ensures.value so _ _ p h (group_good c.read_operands-uses.ensures c.in-Good.is).kept (group_good c.read_operands-defs.ensures c.in-Good-defs_form.is).kept) z ends.place);
+      clear = (
         record { inside = ends.inside; placed = q.placed; room = q.room },
         record { uses_within = λ S h t. packed_within w ku.room few-uses within-uses pu t; defs_within = λ S h t. packed_within w kd.room few-defs within-defs pd t },
-      ) }
+      );
+    }

@@ -1,11 +1,9 @@
 -- `records::pack` meets its contract: from `from` on the words of the first `i` operands stand, one more each turn.
-use mathlib.Core.Path.{◌≡◌, sym}
+use mathlib.Core.Path.{◌≡◌}
 use Prim.Native.Nat.{◌-◌, ◌≤◌}
-use native.Mathlib.Omega.{arith}
-use lib.ListN.{length, get_or, length-set}
-use Rattle.lists.specs.Over.{over, over_none, over_step}
+use lib.ListN.{length, get_or}
+use Rattle.lists.specs.Over.{over}
 use Rattle.records.specs.Parts.{word}
-use borrow.Author.Rules.{rules}
 use Rattle.records.proofs.pack.Given as goal
 
 abbrev pub invariant-loop-i : goal.invariant-loop-i

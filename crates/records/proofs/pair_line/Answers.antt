@@ -1,16 +1,9 @@
 -- `records::pair_line` meets its contract: two numbers are the step, to which of refusals 5 to 8 only 5 applies (`Paired`);
 -- anything else is refusal 3.
-use mathlib.Core.Path.{◌≡◌}
-use mathlib.Core.Option.{Option}
-use lib.ListN.{get_or}
-use Prim.Native.Nat.{ℕ}
-use Rattle.paper.specs.Sheet.{Sheet, Step}
-use Rattle.paper.specs.Refusals.{step_record, so_far_of, first_holding, conditions}
-use Rattle.records.specs.Records.{judged_of, pair_line, Ends, Placed, Paired}
+use Rattle.records.specs.Records.{pair_line}
 use Rattle.records.proofs.LawsNumbers.{exactly_good}
 use Rattle.records.proofs.LawsTold.{clear_of, judged_by, ill_formed, breaks, passes, in_place, pair_tested, pair_says, pair_bad, pair_within}
 use native.Mathlib.Omega.{arith}
-use borrow.Author.Rules.{rules}
 use Rattle.records.proofs.pair_line.Goals as goal
 
 pub read_exactly-read-requires : goal.read_exactly-read-requires

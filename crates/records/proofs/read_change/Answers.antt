@@ -1,9 +1,6 @@
 -- `records::read_change` meets its contract: the fields are taken in the paper's order, each where the last one ended; a bad one,
 -- or one too many, leaves no `C`.
-use Rattle.fields.specs.declared.Number.TheVariants.{Value}
-use Rattle.records.specs.Records.{NumberBehind, NameBehind}
 use Rattle.records.proofs.LawsSteps.{change_no_inst, change_no_slot, change_no_from, change_no_to, change_too_long, change_says, change_ends}
-use borrow.Author.Rules.{rules}
 use Rattle.records.proofs.read_change.Goals as goal
 
 pub returns-in_default : goal.returns-in_default

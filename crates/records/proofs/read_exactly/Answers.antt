@@ -1,6 +1,5 @@
 -- `records::read_exactly` meets its contract: at most 8 numbers are enough to tell whether there are `n` and no more.
 use Rattle.records.proofs.LawsNumbers.{exactly_not, exactly_read}
-use borrow.Author.Rules.{rules}
 use Rattle.records.proofs.read_exactly.Goals as goal
 
 pub read_numbers-read-requires : goal.read_numbers-read-requires

@@ -1,9 +1,6 @@
 use mathlib.Core.Path.{refl}
-use Prim.Native.Nat.{◌-◌}
 use native.Mathlib.Omega.{arith}
-use lib.ListN.{length}
-use Rattle.records.proofs.LawsNumbers.{NumbersReading, reading_none, reading_bad, reading_ninth, reading_more, reading_done}
-use borrow.Author.Rules.{rules}
+use Rattle.records.proofs.LawsNumbers.{reading_none, reading_bad, reading_ninth, reading_more, reading_done}
 use Rattle.records.proofs.read_numbers.Goals as goal
 
 pub loop-i-init : goal.loop-i-init

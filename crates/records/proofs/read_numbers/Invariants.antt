@@ -1,11 +1,8 @@
 -- `records::read_numbers` meets its contract: the line's numbers are those kept and those behind `i`, which moves on each turn; a
 -- bad field or a ninth number leaves no list of at most 8.
-use mathlib.Core.Path.{refl}
 use Prim.Native.Nat.{◌-◌}
-use native.Mathlib.Omega.{arith}
 use lib.ListN.{length}
-use Rattle.records.proofs.LawsNumbers.{NumbersReading, reading_none, reading_bad, reading_ninth, reading_more, reading_done}
-use borrow.Author.Rules.{rules}
+use Rattle.records.proofs.LawsNumbers.{NumbersReading}
 use Rattle.records.proofs.read_numbers.Given as goal
 
 abbrev pub invariant-loop-i : goal.invariant-loop-i

@@ -1,9 +1,6 @@
 use mathlib.Core.Path.{refl}
-use mathlib.Core.Logic.{⊎_elim}
-use Prim.Native.Nat.{◌-◌}
 use native.Mathlib.Omega.{arith}
-use Rattle.records.proofs.LawsOperands.{zeros_small, Grouping, grouping_none, grouping_bad, grouping_past, grouping_more, grouping_done, group_bad, group_uncounted}
-use borrow.Author.Rules.{rules}
+use Rattle.records.proofs.LawsOperands.{zeros_small, grouping_none, grouping_bad, grouping_past, grouping_more, grouping_done, group_bad, group_uncounted}
 use Rattle.records.proofs.read_operands.Goals as goal
 use Rattle.records.proofs.read_operands.Goals.{then-count-lt-MAX_OPERANDS, else-count-lt-MAX_OPERANDS}
 
@@ -27,8 +24,8 @@ pub loop-count-preserved : goal.loop-count-preserved
 loop-count-preserved c =
     let w = rw c.in-Value-operand_behind.is at c.operand_behind.ensures in
     elim c.if-count-lt-MAX_OPERANDS.branch [
-      then-count-lt-MAX_OPERANDS x ↦ rw (x.registers-is, x.names-is) (grouping_more c.loop-count.invariant _ c.loop-count-test.true w.0 w.1 x.if-count-lt-MAX_OPERANDS.true)
-    | else-count-lt-MAX_OPERANDS x ↦ rw (x.registers-is, x.names-is) (grouping_past c.loop-count.invariant c.loop-count-test.true w.0 x.if-count-lt-MAX_OPERANDS.false)
+      | then-count-lt-MAX_OPERANDS x ↦ rw (x.registers-is, x.names-is) (grouping_more c.loop-count.invariant _ c.loop-count-test.true w.0 w.1 x.if-count-lt-MAX_OPERANDS.true)
+      | else-count-lt-MAX_OPERANDS x ↦ rw (x.registers-is, x.names-is) (grouping_past c.loop-count.invariant c.loop-count-test.true w.0 x.if-count-lt-MAX_OPERANDS.false)
     ]
 
 pub returns : goal.returns

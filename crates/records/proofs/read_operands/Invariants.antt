@@ -1,11 +1,7 @@
 -- `records::read_operands` meets its contract: the group is the operands read and the `n - count` behind `i`, one fewer each turn;
 -- the first 8 of those read are kept, and a bad one leaves no group.
-use mathlib.Core.Path.{refl}
-use mathlib.Core.Logic.{⊎_elim}
 use Prim.Native.Nat.{◌-◌}
-use native.Mathlib.Omega.{arith}
-use Rattle.records.proofs.LawsOperands.{zeros_small, Grouping, grouping_none, grouping_bad, grouping_past, grouping_more, grouping_done, group_bad, group_uncounted}
-use borrow.Author.Rules.{rules}
+use Rattle.records.proofs.LawsOperands.{Grouping}
 use Rattle.records.proofs.read_operands.Given as goal
 
 abbrev pub invariant-loop-count : goal.invariant-loop-count

@@ -1,8 +1,5 @@
-use Prim.Native.Nat.{◌-◌}
 use native.Mathlib.Omega.{arith}
-use lib.ListN.{length}
-use Rattle.records.proofs.LawsSlots.{Slotting, slotting_none, slotting_bad, slotting_more, slotting_done}
-use borrow.Author.Rules.{rules}
+use Rattle.records.proofs.LawsSlots.{slotting_none, slotting_bad, slotting_more, slotting_done}
 use Rattle.records.proofs.read_slots.Goals as goal
 
 pub loop-i-init : goal.loop-i-init

@@ -1,10 +1,8 @@
 -- `records::read_slots` meets its contract: the line's slots are those that `listed` tells of and those behind `i`, which moves on
 -- each turn; a bad field leaves none.
 use Prim.Native.Nat.{◌-◌}
-use native.Mathlib.Omega.{arith}
 use lib.ListN.{length}
-use Rattle.records.proofs.LawsSlots.{Slotting, slotting_none, slotting_bad, slotting_more, slotting_done}
-use borrow.Author.Rules.{rules}
+use Rattle.records.proofs.LawsSlots.{Slotting}
 use Rattle.records.proofs.read_slots.Given as goal
 
 abbrev pub invariant-loop-i : goal.invariant-loop-i

@@ -1,13 +1,8 @@
-use mathlib.Core.Path.{◌≡◌, refl, sym, ◌∙◌}
-use mathlib.Core.Logic.{⊎_elim}
-use Prim.Native.Nat.{◌-◌, ◌≤◌}
-use native.Mathlib.Decide.{ℕ_discrete}
+use mathlib.Core.Path.{refl, sym, ◌∙◌}
+use Prim.Native.Nat.{◌≤◌}
 use native.Mathlib.Omega.{arith}
-use lib.ListN.{length, take, drop}
-use Rattle.paper.specs.Refusals.{repeats}
-use Rattle.records.specs.Parts.{below}
+use lib.ListN.{length}
 use Rattle.records.proofs.LawsRepeats.{repeats_past, repeats_above, repeats_here, repeats_on}
-use borrow.Author.Rules.{rules}
 use Rattle.records.proofs.repeated.Goals as goal
 use Rattle.records.proofs.repeated.Goals.{then-code-limit+else-appears, else-code-limit}
 
@@ -24,8 +19,8 @@ loop-i-preserved c =
     let p = c.loop-i-test.true in
     c.loop-i.invariant
     ∙ elim c.if-code-limit.branch [
-      then-code-limit+else-appears w ↦ repeats_on _ _ _ _ r p w.if-code-limit.true w.appears.ensures w.if-appears.false
-    | else-code-limit w ↦ repeats_above _ _ _ _ r p w.if-code-limit.false
+      | then-code-limit+else-appears w ↦ repeats_on _ _ _ _ r p w.if-code-limit.true w.appears.ensures w.if-appears.false
+      | else-code-limit w ↦ repeats_above _ _ _ _ r p w.if-code-limit.false
     ]
 
 pub returns : goal.returns

@@ -1,16 +1,10 @@
 -- `records::safepoint_line` meets its contract: a bad field is refusal 3; else `listed` tells the slots' limit and order, and where
 -- it passes the mask's set bits are the slots, all below `F`'s count.
-use mathlib.Core.Path.{◌≡◌, refl}
-use mathlib.Core.Option.{Option}
+use mathlib.Core.Path.{refl}
 use native.Mathlib.Omega.{arith}
-use Rattle.paper.specs.Sheet.{Sheet, Step, safepoint}
-use Rattle.paper.specs.Refusals.{step_record, so_far_of, first_holding, conditions}
-use Rattle.fields.specs.declared.Number.TheVariants.{Value}
-use Rattle.records.specs.Records.{judged_of, safepoint_line, NumberBehind, Placed, Counted}
-use Rattle.records.specs.Parts.{SlotsListed}
+use Rattle.records.specs.Records.{safepoint_line}
 use Rattle.records.proofs.LawsTold.{clear_of, judged_by, ill_formed, breaks, passes, in_place}
 use Rattle.records.proofs.LawsSteps.{safepoint_no_inst, safepoint_bad, safepoint_says, safepoint_ends, safepoint_tested, safepoint_bits, safepoint_within}
-use borrow.Author.Rules.{rules}
 use Rattle.records.proofs.safepoint_line.Goals as goal
 
 pub number_behind-requires : goal.number_behind-requires

@@ -1,17 +1,10 @@
 -- `records::typed_line` meets its contract: one number is a `T`; beyond its limit it is refusal 5, and below `least` 6, for there
 -- the order is broken (`Least`); anything else is refusal 3.
-use mathlib.Core.Path.{◌≡◌}
-use mathlib.Core.Option.{Option}
 use borrow.Author.Tests.{leb-false, ltb-false}
-use lib.ListN.{get_or}
-use Prim.Native.Nat.{ℕ}
-use Rattle.paper.specs.Sheet.{Sheet}
-use Rattle.paper.specs.Refusals.{typed_record, so_far_of, first_holding, conditions}
-use Rattle.records.specs.Records.{judged_of, typed_line, Ends, Placed, Counted, Least}
+use Rattle.records.specs.Records.{typed_line}
 use Rattle.records.proofs.LawsNumbers.{exactly_good}
 use Rattle.records.proofs.LawsTold.{clear_of, judged_by, ill_formed, breaks, passes, in_place, typed_tested, typed_says, typed_bad}
 use native.Mathlib.Omega.{arith}
-use borrow.Author.Rules.{rules}
 use Rattle.records.proofs.typed_line.Goals as goal
 
 pub read_exactly-read-requires : goal.read_exactly-read-requires

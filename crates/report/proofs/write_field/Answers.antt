@@ -3,7 +3,6 @@ use native.Mathlib.Omega.{arith}
 use Rattle.lists.specs.Sets.{then}
 use Rattle.paper.specs.Report.{slot_text}
 use Rattle.report.specs.Lines.{field_text}
-use borrow.Author.Rules.{rules}
 use Rattle.report.proofs.write_field.Goals as goal
 
 pub write_byte-requires : goal.write_byte-requires

@@ -4,7 +4,6 @@ use Rattle.lists.specs.Sets.{then}
 use Rattle.paper.specs.Report.{behind_tabs}
 use Rattle.report.specs.Lines.{field_texts}
 use Rattle.report.proofs.LawsLines.{fields_room}
-use borrow.Author.Rules.{rules}
 use Rattle.report.proofs.write_fields.Goals as goal
 
 pub write_before_number-a-requires : goal.write_before_number-a-requires

@@ -3,7 +3,6 @@ use native.Mathlib.Omega.{arith}
 use Rattle.lists.specs.Sets.{then}
 use Rattle.paper.specs.Report.{behind_tabs, header_text}
 use Rattle.report.proofs.LawsLines.{header_room}
-use borrow.Author.Rules.{rules}
 use Rattle.report.proofs.write_header.Goals as goal
 
 pub write_byte-a-requires : goal.write_byte-a-requires

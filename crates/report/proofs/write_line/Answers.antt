@@ -4,7 +4,6 @@ use Rattle.lists.specs.Sets.{then}
 use Rattle.paper.specs.Report.{behind_tabs}
 use Rattle.report.specs.Lines.{fields_line}
 use Rattle.report.proofs.LawsLines.{line_room}
-use borrow.Author.Rules.{rules}
 use Rattle.report.proofs.write_line.Goals as goal
 
 pub write_byte-a-requires : goal.write_byte-a-requires

@@ -1,9 +1,7 @@
 -- `write_packed_name` meets its contract: below 256 the nine bits are a virtual name, else a real one, and the test tells which.
-use native.Mathlib.Omega.{arith}
 use borrow.Author.Tests.{lt-ltb, le-ltb}
 use Rattle.cells.specs.Packed.{name_of_word}
 use Rattle.fields.specs.Fields.{name_made}
-use borrow.Author.Rules.{rules}
 use Rattle.report.proofs.write_packed_name.Goals as goal
 
 pub write_name-requires : goal.write_name-requires

@@ -1,10 +1,7 @@
 -- `write_rule` meets its contract: one case for each rule, its three or five letters one behind the other.
-use Prim.Native.Nat.{◌+◌, ◌≤◌}
 use native.Mathlib.Omega.{arith}
-use lib.ListN.{length}
 use Rattle.lists.specs.Sets.{then}
 use Rattle.paper.specs.Report.{rule_text}
-use borrow.Author.Rules.{rules}
 use Rattle.report.proofs.write_rule.Goals as goal
 
 pub write_byte-a-requires : goal.write_byte-a-requires

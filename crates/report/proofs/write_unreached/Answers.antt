@@ -4,7 +4,6 @@ use native.Mathlib.Omega.{arith}
 use Rattle.lists.specs.Sets.{then}
 use Rattle.paper.specs.Report.{behind_tabs, unreached_text}
 use Rattle.report.specs.Lengths.{unreached_length}
-use borrow.Author.Rules.{rules}
 use Rattle.report.proofs.write_unreached.Goals as goal
 
 pub write_byte-a-requires : goal.write_byte-a-requires

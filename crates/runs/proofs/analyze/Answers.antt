@@ -1,9 +1,5 @@
-use Prim.Native.Nat.{◌-◌}
 use native.Mathlib.Omega.{arith}
-use borrow.Author.Rules.{rules}
-use Rattle.paper.specs.Runs.{visit_bound}
-use Rattle.loaded.specs.Loaded.{sheet_of}
-use Rattle.runs.proofs.LawsAnalysis.{Going, going_begins, going_continues, going_left, going_small, going_more, going_ends, going_ended, analysed_from, ended_from}
+use Rattle.runs.proofs.LawsAnalysis.{going_begins, going_continues, going_left, going_small, going_more, going_ends, going_ended, analysed_from, ended_from}
 use Rattle.runs.proofs.analyze.Goals as goal
 
 pub loop-ring-init : goal.loop-ring-init

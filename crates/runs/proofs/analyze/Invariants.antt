@@ -1,10 +1,8 @@
 -- `analyze` meets its contract: each turn of the loop is one visit of the paper's run, and the bound on visits falls with each.
 use Prim.Native.Nat.{◌-◌}
-use native.Mathlib.Omega.{arith}
-use borrow.Author.Rules.{rules}
 use Rattle.paper.specs.Runs.{visit_bound}
 use Rattle.loaded.specs.Loaded.{sheet_of}
-use Rattle.runs.proofs.LawsAnalysis.{Going, going_begins, going_continues, going_left, going_small, going_more, going_ends, going_ended, analysed_from, ended_from}
+use Rattle.runs.proofs.LawsAnalysis.{Going}
 use Rattle.runs.proofs.analyze.Given as goal
 
 abbrev pub invariant-loop-ring : goal.invariant-loop-ring

@@ -1,5 +1,4 @@
 -- `append` meets its contract: the ring is not full, so the byte written is none of those held; they stay, and b comes behind them.
-use borrow.Author.Rules.{rules}
 use Rattle.runs.proofs.LawsQueue.{append_is}
 use Rattle.runs.proofs.append.Goals as goal
 

@@ -1,10 +1,7 @@
 -- `begin` meets its contract: every block as it begins, then the entry with its state and waiting alone, is the run's beginning;
 -- the sheet's words are kept, so the entry is still a block.
-use mathlib.Core.Path.{◌≡◌}
 use native.Mathlib.Omega.{arith}
-use lib.ListN.{get_or}
-use borrow.Author.Rules.{rules}
-use Rattle.layout.specs.Layout.{regs_word, blocks_word}
+use Rattle.layout.specs.Layout.{blocks_word}
 use Rattle.runs.proofs.LawsBegin.{regs_are, begun}
 use Rattle.runs.proofs.begin.Goals as goal
 

@@ -1,7 +1,6 @@
 -- `place` meets its contract: the test says whether the place lies round the end; n is at most the size, so once round is enough.
 use mathlib.Core.Path.{sym}
 use native.Mathlib.Omega.{arith}
-use borrow.Author.Rules.{rules}
 use Rattle.runs.proofs.LawsQueue.{near, round}
 use Rattle.runs.proofs.place.Goals as goal
 

@@ -1,5 +1,4 @@
 -- `take` meets its contract: what the ring holds is the block at its front, then what it holds from the next place on.
-use borrow.Author.Rules.{rules}
 use Rattle.runs.proofs.LawsQueue.{take_is}
 use Rattle.runs.proofs.take.Goals as goal
 

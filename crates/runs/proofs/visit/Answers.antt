@@ -1,13 +1,7 @@
-use Prim.Native.Nat.{ℕ, ◌-◌, ◌<◌}
 use native.Mathlib.Omega.{arith}
-use borrow.Author.Rules.{rules}
-use lib.ListN.{get_or}
-use Rattle.layout.specs.Layout.{succ_base}
-use Rattle.loaded.specs.Loaded.{succ_total}
-use Rattle.runs.specs.Queue.{Taken}
 use Rattle.runs.proofs.LawsPush.{pushed}
 use Rattle.runs.proofs.LawsSettled.{unsettled_came}
-use Rattle.runs.proofs.LawsVisit.{Serving, serving_none, serving_more, Settling, settling_none, settling_more, visited_settled, visited_run, still_allocated, first_below, Visiting, visiting, serving_ready, serving_block, serving_sound, serving_room}
+use Rattle.runs.proofs.LawsVisit.{serving_none, serving_more, settling_none, settling_more, visited_settled, visited_run, still_allocated, first_below, visiting, serving_ready, serving_block, serving_sound, serving_room}
 use Rattle.runs.proofs.visit.Goals as goal
 
 pub overflow_cast-b : goal.overflow_cast-b

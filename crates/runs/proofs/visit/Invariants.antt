@@ -1,16 +1,10 @@
 -- `visit` meets its contract: after i turns the first i successors have got the result, and `total - i` falls; at the end this is
 -- one visit of the run. A settled block's visit changes nothing but the queue (`visited_settled`). Visits begun and blocks that wait
 -- are together within the visit bound, so each push has room.
-use Prim.Native.Nat.{ℕ, ◌-◌, ◌<◌}
-use native.Mathlib.Omega.{arith}
-use borrow.Author.Rules.{rules}
-use lib.ListN.{get_or}
+use Prim.Native.Nat.{◌-◌}
 use Rattle.layout.specs.Layout.{succ_base}
 use Rattle.loaded.specs.Loaded.{succ_total}
-use Rattle.runs.specs.Queue.{Taken}
-use Rattle.runs.proofs.LawsPush.{pushed}
-use Rattle.runs.proofs.LawsSettled.{unsettled_came}
-use Rattle.runs.proofs.LawsVisit.{Serving, serving_none, serving_more, Settling, settling_none, settling_more, visited_settled, visited_run, still_allocated, first_below, Visiting, visiting, serving_ready, serving_block, serving_sound, serving_room}
+use Rattle.runs.proofs.LawsVisit.{Serving, Settling}
 use Rattle.runs.proofs.visit.Given as goal
 
 abbrev pub invariant-loop-i : goal.invariant-loop-i

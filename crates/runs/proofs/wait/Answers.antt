@@ -1,7 +1,6 @@
 -- `wait` meets its contract: where what came is new, the block is appended and its byte cleared; else all stays as it is.
 use mathlib.Core.Path.{refl}
 use Rattle.runs.specs.Settled.{unsettled}
-use borrow.Author.Rules.{rules}
 use Rattle.runs.proofs.wait.Goals as goal
 
 pub returns-then-new : goal.returns-then-new

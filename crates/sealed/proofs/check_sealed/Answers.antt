@@ -1,11 +1,6 @@
 -- `sealed::check_sealed` meets its contract: the line stands behind the report that `check` laid, which has at most its size.
-use mathlib.Core.Path.{◌≡◌, sym, ◌∙◌}
-use mathlib.Core.Bool.{false}
-use Rattle.paper.specs.Limits.{sealed_size}
-use Rattle.paper.specs.Answer.{too_short}
-use Rattle.checker.specs.Checked.{lent}
+use mathlib.Core.Path.{sym, ◌∙◌}
 use Rattle.sealed.proofs.Laws.{turned_short, accepted_text, faulty_text, room_for_line, sealed_accepted, sealed_faulty, refused_sealed}
-use borrow.Author.Rules.{rules}
 use Rattle.sealed.proofs.check_sealed.Goals as goal
 
 pub returns-then-too_short : goal.returns-then-too_short

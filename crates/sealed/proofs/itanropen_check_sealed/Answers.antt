@@ -1,6 +1,5 @@
 -- `sealed::itanropen_check_sealed` meets its contract.
 use Rattle.sealed.proofs.Laws.{exported}
-use borrow.Author.Rules.{rules}
 use Rattle.sealed.proofs.itanropen_check_sealed.Goals as goal
 
 pub returns : goal.returns

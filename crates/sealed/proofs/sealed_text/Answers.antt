@@ -1,11 +1,6 @@
 -- `sealed::sealed_text` meets its contract: a sealed report stands already; a refusal left the report as it was, and is written by the plain call.
-use mathlib.Core.Path.{◌≡◌, sym, ◌∙◌}
-use mathlib.Core.Bool.{false}
-use Rattle.paper.specs.Limits.{sealed_size}
-use Rattle.paper.specs.Answer.{too_short}
-use Rattle.checker.specs.Checked.{lent}
+use mathlib.Core.Path.{sym, ◌∙◌}
 use Rattle.sealed.proofs.Laws.{text_short, text_accepted, text_faulty, text_refused}
-use borrow.Author.Rules.{rules}
 use Rattle.sealed.proofs.sealed_text.Goals as goal
 
 pub returns-then-short : goal.returns-then-short

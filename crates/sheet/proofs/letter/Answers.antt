@@ -4,7 +4,6 @@ use mathlib.Core.Path.{sym}
 use Rattle.fields.specs.Fields.{ends_field}
 use Rattle.records.specs.Letters.{letter_none, not_last}
 use Rattle.sheet.proofs.LawsText.{letter_one, letter_more}
-use borrow.Author.Rules.{rules}
 use Rattle.sheet.proofs.letter.Goals as goal
 
 pub returns-then-b : goal.returns-then-b

@@ -1,6 +1,5 @@
 -- `sheet::limits_of` meets its contract: one case for each kind of copy.
 use Rattle.sheet.specs.Reading.{limits_of}
-use borrow.Author.Rules.{rules}
 use Rattle.sheet.proofs.limits_of.Goals as goal
 
 pub returns-in-Spill : goal.returns-in-Spill

@@ -1,17 +1,10 @@
-use mathlib.Core.Path.{◌≡◌, refl, sym, ◌∙◌}
-use Prim.Native.Nat.{◌-◌, ◌≤◌}
+use mathlib.Core.Path.{refl, sym, ◌∙◌}
 use native.Mathlib.Omega.{arith}
-use mathlib.Core.List.{◌++◌}
-use lib.ListN.{length, drop}
 use lib.Seq.{length-take-le}
-use Rattle.layout.specs.Layout.{block_base, all_words}
-use Rattle.sheet.specs.Reading.{SheetText}
+use Rattle.layout.specs.Layout.{block_base}
 use Rattle.sheet.proofs.LawsText.{text_of}
 use Rattle.sheet.proofs.LawsProgress.{size_of}
-use Rattle.sheet.proofs.LawsLoad.{Ahead, ahead_at_first, line_good, line_further, bad_progress, line_bad, too_few, all_read, no_sheet, cleared_length, cleared_blank, load_from}
-use borrow.Author.Rules.{rules}
-use mathlib.Core.Bool.{false}
-use Rattle.paper.specs.Refusals.{no_text}
+use Rattle.sheet.proofs.LawsLoad.{ahead_at_first, line_good, line_further, bad_progress, line_bad, too_few, all_read, no_sheet, cleared_length, cleared_blank, load_from}
 use Rattle.sheet.proofs.load.Goals as goal
 
 pub no_text-requires : goal.no_text-requires

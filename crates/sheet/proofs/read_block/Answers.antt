@@ -1,21 +1,13 @@
 -- `sheet::read_block` meets its contract: place and counts in the words are those of the sheet so far, so what `block_line` tells
 -- holds of it; for a good line there is room for a block, so `F` was read, and each successor is below `F`'s count.
-use mathlib.Core.Path.{◌≡◌, refl, ap, subst}
-use mathlib.Core.Bool.{false}
+use mathlib.Core.Path.{refl, ap, subst}
 use native.Mathlib.Omega.{arith}
-use lib.Dec.{leb}
-use lib.ListN.{get_or}
-use Rattle.paper.specs.Refusals.{block_of}
-use Rattle.layout.specs.Layout.{blocks_word}
-use Rattle.fields.specs.Fields.{line_end, fields_behind}
-use Rattle.records.specs.Records.{block_told, block_line, told, InPlace}
+use Rattle.records.specs.Records.{block_told}
 use Rattle.loaded.specs.Filling.{BlockWithin}
 use Rattle.loaded.specs.declared.Counts.{Counts}
-use Rattle.records.specs.declared.Place.{Place}
 use Rattle.loaded.specs.Loaded.{so_far}
 use Rattle.sheet.proofs.LawsProgress.{size_of, room_of, begun_by_room, block_placed, so_far_counted}
 use Rattle.sheet.proofs.LawsJudged.{line_refused, line_accepted, block_clear}
-use borrow.Author.Rules.{rules}
 use Rattle.sheet.proofs.read_block.Goals as goal
 
 pub progress-reached-requires : goal.progress-reached-requires

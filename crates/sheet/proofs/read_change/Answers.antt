@@ -1,20 +1,15 @@
 -- `sheet::read_change` meets its contract: place, counts and typed names in the words are those of the sheet so far, so what
 -- `change_line` tells holds of it; a good line's action fits.
-use mathlib.Core.Path.{◌≡◌, refl, ap}
-use Prim.Native.Nat.{◌<◌}
+use mathlib.Core.Path.{refl, ap}
 use native.Mathlib.Omega.{arith}
-use lib.ListN.{get_or}
 use Rattle.lists.specs.Region.{region, length_region}
-use Rattle.paper.specs.Refusals.{change_of}
-use Rattle.layout.specs.Layout.{slots_word, typed_base, typed_words}
-use Rattle.fields.specs.Fields.{line_end, fields_behind}
-use Rattle.records.specs.Records.{change_line, told, InPlace, ChangeWithin}
+use Rattle.layout.specs.Layout.{typed_base, typed_words}
+use Rattle.records.specs.Records.{change_line}
 use Rattle.loaded.specs.Actions.{step_of}
 use Rattle.loaded.specs.Loaded.{so_far}
-use Rattle.sheet.proofs.LawsProgress.{Ready, step_ready, size_of, step_placed, within_by, so_far_counted, so_far_typed}
+use Rattle.sheet.proofs.LawsProgress.{step_ready, size_of, step_placed, within_by, so_far_counted, so_far_typed}
 use Rattle.sheet.proofs.LawsJudged.{line_refused, line_accepted, change_clear}
 use Rattle.sheet.proofs.LawsActions.{change_fits}
-use borrow.Author.Rules.{rules}
 use Rattle.sheet.proofs.read_change.Goals as goal
 
 pub step_place-place-requires : goal.step_place-place-requires

@@ -1,16 +1,13 @@
 -- `sheet::read_copy` meets its contract: `pair_line` holds the numbers against the counts of the kind's rows, as the paper does
 -- (`copy_paired`), in the place that the words tell; a good line's action fits.
-use mathlib.Core.Path.{◌≡◌, refl, ap}
+use mathlib.Core.Path.{refl, ap}
 use native.Mathlib.Omega.{arith}
-use Rattle.paper.specs.Refusals.{two_numbers_of}
-use Rattle.fields.specs.Fields.{line_end, fields_behind}
-use Rattle.records.specs.Records.{pair_line, told, InPlace, PairWithin}
+use Rattle.records.specs.Records.{pair_line}
 use Rattle.loaded.specs.Actions.{copy_step, step_of}
-use Rattle.loaded.specs.Loaded.{so_far, counts_of}
-use Rattle.sheet.proofs.LawsProgress.{Ready, step_ready, size_of, step_placed, so_far_counted}
+use Rattle.loaded.specs.Loaded.{so_far}
+use Rattle.sheet.proofs.LawsProgress.{step_ready, size_of, step_placed, so_far_counted}
 use Rattle.sheet.proofs.LawsJudged.{line_refused, line_accepted, pair_clear}
 use Rattle.sheet.proofs.LawsActions.{copy_fits, copy_paired}
-use borrow.Author.Rules.{rules}
 use Rattle.sheet.proofs.read_copy.Goals as goal
 
 pub step_place-place-requires : goal.step_place-place-requires

@@ -1,17 +1,11 @@
 -- `sheet::read_function` meets its contract: the place that the words tell is the paper's, so what `function_line` tells holds of the
 -- sheet so far; a good line finds the words blank, and its values are within their limits.
-use mathlib.Core.Path.{◌≡◌, refl, ap}
-use mathlib.Core.Bool.{false}
+use mathlib.Core.Path.{refl, ap}
 use native.Mathlib.Omega.{arith}
-use Rattle.paper.specs.Refusals.{function_of}
-use Rattle.fields.specs.Fields.{line_end, fields_behind}
-use Rattle.records.specs.Records.{function_line, told, InPlace}
-use Rattle.loaded.specs.Filling.{FunctionWithin}
-use Rattle.records.specs.declared.Place.{Place}
+use Rattle.records.specs.Records.{function_line}
 use Rattle.loaded.specs.Loaded.{so_far}
 use Rattle.sheet.proofs.LawsProgress.{size_of, blank_of, function_placed}
 use Rattle.sheet.proofs.LawsJudged.{line_refused, line_accepted, function_clear}
-use borrow.Author.Rules.{rules}
 use Rattle.sheet.proofs.read_function.Goals as goal
 
 pub progress-reached-requires : goal.progress-reached-requires

@@ -8,7 +8,6 @@ use Rattle.sheet.proofs.LawsLetters.{read_by_letter, no_letter, other_letter}
 use Prim.Native.Nat.{ℕ, ◌+◌, ◌<◌}
 use mathlib.Core.List.{List}
 use lib.ListN.{length}
-use Rattle.paper.specs.Limits.{max_sheet}
 use Rattle.paper.specs.Text.{fields}
 use Rattle.fields.specs.Fields.{line_at, field_at, fields_behind}
 use Rattle.records.specs.Records.{Behind}

@@ -1,20 +1,14 @@
 -- `sheet::read_operation` meets its contract: place, counts and typed names in the words are those of the sheet so far, so what
 -- `operation_line` tells holds of it; a good line's operands are stored behind all that was read, and the action finds them there.
-use mathlib.Core.Path.{◌≡◌, refl, ap, subst}
+use mathlib.Core.Path.{refl, ap, subst}
 use native.Mathlib.Omega.{arith}
-use lib.ListN.{get_or}
 use Rattle.lists.specs.Region.{region, length_region}
-use Rattle.paper.specs.Refusals.{operation_of}
-use Rattle.layout.specs.Layout.{regs_word, typed_base, typed_words, defs_from}
-use Rattle.fields.specs.Fields.{line_end, fields_behind}
-use Rattle.records.specs.Records.{operation_told, operation_line, told, InPlace, GroupsWithin}
-use Rattle.loaded.specs.Filling.{GroupWithin}
+use Rattle.layout.specs.Layout.{typed_base, typed_words}
+use Rattle.records.specs.Records.{operation_told, GroupsWithin}
 use Rattle.loaded.specs.declared.Counts.{Counts}
-use Rattle.loaded.specs.Actions.{operands}
 use Rattle.loaded.specs.Loaded.{sheet_of, so_far}
-use Rattle.sheet.proofs.LawsProgress.{Ready, step_ready, size_of, counted_of, typed_by, step_placed, within_by, so_far_counted}
+use Rattle.sheet.proofs.LawsProgress.{step_ready, size_of, counted_of, typed_by, step_placed, within_by, so_far_counted}
 use Rattle.sheet.proofs.LawsJudged.{line_refused, line_accepted, operation_clear}
-use borrow.Author.Rules.{rules}
 use Rattle.sheet.proofs.read_operation.Goals as goal
 
 pub step_place-place-requires : goal.step_place-place-requires
@@ -38,8 +32,8 @@ add_operation-requires c =
     let words = c.args.words.now in
     let r = step_ready c.requires.1 c.step_place-place.ensures (operation_clear c.operation_line-line.ensures.clear c.in-Good.is).0 in
     let w = subst (λ (k : Counts). GroupsWithin k (region typed_base typed_words words) c.operation_line-line.result.operands c.in-Good.n c.in-Good.m)
-        c.counts_of-counts.ensures
-        (operation_clear c.operation_line-line.ensures.clear c.in-Good.is).1 in
+    c.counts_of-counts.ensures
+    (operation_clear c.operation_line-line.ensures.clear c.in-Good.is).1 in
     (r.some_sheet, r.some_block, r.some_room, w.uses_within (sheet_of words) (counted_of words) (typed_by words), w.defs_within (sheet_of words) (counted_of words) (typed_by words))
 
 pub overflow_add-result : goal.overflow_add-result

@@ -1,19 +1,13 @@
 -- `sheet::read_safepoint` meets its contract: place and counts in the words are those of the sheet so far, so what `safepoint_line`
 -- tells holds of it; a good line's action fits.
-use mathlib.Core.Path.{◌≡◌, refl, ap}
-use Prim.Native.Nat.{◌^◌, ◌<◌}
+use mathlib.Core.Path.{refl, ap}
 use native.Mathlib.Omega.{arith}
-use lib.ListN.{get_or}
-use Rattle.paper.specs.Refusals.{safepoint_of}
-use Rattle.layout.specs.Layout.{slots_word}
-use Rattle.fields.specs.Fields.{line_end, fields_behind}
-use Rattle.records.specs.Records.{safepoint_line, told, InPlace, SafepointWithin}
+use Rattle.records.specs.Records.{safepoint_line}
 use Rattle.loaded.specs.Actions.{step_of}
 use Rattle.loaded.specs.Loaded.{so_far}
-use Rattle.sheet.proofs.LawsProgress.{Ready, step_ready, size_of, step_placed, within_by, so_far_counted}
+use Rattle.sheet.proofs.LawsProgress.{step_ready, size_of, step_placed, within_by, so_far_counted}
 use Rattle.sheet.proofs.LawsJudged.{line_refused, line_accepted, safepoint_clear}
 use Rattle.sheet.proofs.LawsActions.{safepoint_fits}
-use borrow.Author.Rules.{rules}
 use Rattle.sheet.proofs.read_safepoint.Goals as goal
 
 pub step_place-place-requires : goal.step_place-place-requires

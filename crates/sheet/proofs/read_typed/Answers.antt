@@ -1,21 +1,12 @@
 -- `sheet::read_typed` meets its contract: place, counts and least number in the words are those of the sheet so far, so what
 -- `typed_line` tells holds of it; for a good line `F` was read and no `B`, and the name is below `vregs` and in order.
-use mathlib.Core.Path.{◌≡◌, refl, ap}
-use mathlib.Core.Bool.{false, not, ◌||◌}
-use Prim.Native.Nat.{◌<◌}
+use mathlib.Core.Path.{refl, ap}
 use native.Mathlib.Omega.{arith}
-use lib.Dec.{eqb}
-use lib.ListN.{get_or}
-use Rattle.paper.specs.Refusals.{typed_of}
-use Rattle.layout.specs.Layout.{vregs_word}
-use Rattle.fields.specs.Fields.{line_end, fields_behind}
-use Rattle.records.specs.Records.{typed_line, told, InPlace, TypedWithin}
-use Rattle.records.specs.declared.Place.{Place}
+use Rattle.records.specs.Records.{typed_line}
 use Rattle.loaded.specs.declared.Reached.{Reached}
 use Rattle.loaded.specs.Loaded.{so_far}
 use Rattle.sheet.proofs.LawsProgress.{size_of, typed_ready, typed_placed, within_by, so_far_counted, so_far_least}
 use Rattle.sheet.proofs.LawsJudged.{line_refused, line_accepted, typed_clear}
-use borrow.Author.Rules.{rules}
 use Rattle.sheet.proofs.read_typed.Goals as goal
 
 pub progress-reached-requires : goal.progress-reached-requires

@@ -1,7 +1,5 @@
 -- `sheet::refusal_of` meets its contract: number and line are handed on, and the field is that of the line's letter beside the counts.
-use mathlib.Core.Path.{◌≡◌, refl, sym}
-use Rattle.columns.specs.Columns.{Opening}
-use borrow.Author.Rules.{rules}
+use mathlib.Core.Path.{refl}
 use Rattle.sheet.proofs.refusal_of.Goals as goal
 
 pub counts_of-counts-requires : goal.counts_of-counts-requires

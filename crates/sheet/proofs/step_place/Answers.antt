@@ -1,5 +1,4 @@
 -- `sheet::step_place` meets its contract: `progress` reads the words that it judges by.
-use borrow.Author.Rules.{rules}
 use Rattle.sheet.proofs.step_place.Goals as goal
 
 pub returns : goal.returns

@@ -4,7 +4,6 @@ use native.Mathlib.Omega.{arith}
 use Rattle.checker.specs.Lengths.{long}
 use Rattle.checker.proofs.Texts.{short_outcome}
 use Rattle.states.proofs.LawsCall.{stated}
-use borrow.Author.Rules.{rules}
 use Rattle.states.proofs.entry_states.Goals as goal
 
 pub returns-then-too_short : goal.returns-then-too_short

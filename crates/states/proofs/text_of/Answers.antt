@@ -1,6 +1,5 @@
 -- `text_of` meets its contract: each part is stated by the function that writes it.
 use Rattle.states.specs.Stated.{part_text, part_size}
-use borrow.Author.Rules.{rules}
 use Rattle.states.proofs.text_of.Goals as goal
 
 pub returns-in-Answer : goal.returns-in-Answer

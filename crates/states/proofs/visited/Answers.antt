@@ -1,6 +1,5 @@
 -- `visited` meets its contract: one answer for each rule and mark.
 use Rattle.states.proofs.Laws.{old_visited, not_visited, is_visited}
-use borrow.Author.Rules.{rules}
 use Rattle.states.proofs.visited.Goals as goal
 
 pub returns-in-Old : goal.returns-in-Old

@@ -1,9 +1,6 @@
 -- `write_block` meets its contract: the head, the registers, the slots and the end of the line, and there is room for each.
-use Prim.Native.Nat.{◌≤◌}
 use native.Mathlib.Omega.{arith}
-use Rattle.paper.specs.Limits.{max_regs, max_slots}
 use Rattle.states.proofs.Laws.{block_room, rows_room, wrote_block}
-use borrow.Author.Rules.{rules}
 use Rattle.states.proofs.write_block.Goals as goal
 
 pub row_counts-counts-requires : goal.row_counts-counts-requires

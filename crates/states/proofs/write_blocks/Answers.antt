@@ -1,15 +1,8 @@
 use mathlib.Core.Path.{◌≡◌, refl}
-use Prim.Native.Nat.{◌*◌, ◌-◌, ◌≤◌}
 use native.Mathlib.Omega.{arith}
-use lib.ListN.{length, get_or}
+use lib.ListN.{get_or}
 use Rattle.layout.specs.Layout.{blocks_word}
-use Rattle.lists.specs.Sets.{Wrote}
-use Rattle.loaded.specs.Loaded.{sheet_of}
-use Rattle.paper.specs.Report.{by_block}
-use Rattle.states.specs.EntryStates.{block_text}
-use Rattle.states.specs.Stated.{longest_line}
 use Rattle.states.proofs.Laws.{blocks_none, blocks_then}
-use borrow.Author.Rules.{rules}
 use Rattle.states.proofs.write_blocks.Goals as goal
 
 pub blocks-blocks-requires : goal.blocks-blocks-requires

@@ -1,16 +1,12 @@
 -- `write_blocks` meets its contract: a line more each turn; the longest line for each block fits.
-use mathlib.Core.Path.{◌≡◌, refl}
+use mathlib.Core.Path.{◌≡◌}
 use Prim.Native.Nat.{◌*◌, ◌-◌, ◌≤◌}
-use native.Mathlib.Omega.{arith}
-use lib.ListN.{length, get_or}
-use Rattle.layout.specs.Layout.{blocks_word}
+use lib.ListN.{length}
 use Rattle.lists.specs.Sets.{Wrote}
 use Rattle.loaded.specs.Loaded.{sheet_of}
 use Rattle.paper.specs.Report.{by_block}
 use Rattle.states.specs.EntryStates.{block_text}
 use Rattle.states.specs.Stated.{longest_line}
-use Rattle.states.proofs.Laws.{blocks_none, blocks_then}
-use borrow.Author.Rules.{rules}
 use Rattle.states.proofs.write_blocks.Given as goal
 
 abbrev pub invariant-loop-b : goal.invariant-loop-b

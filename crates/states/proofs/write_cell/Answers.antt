@@ -1,7 +1,6 @@
 -- `write_cell` meets its contract: behind the tab, what the kind of the word says.
 use native.Mathlib.Omega.{arith}
 use Rattle.states.proofs.Laws.{wrote_absent, wrote_unknown, wrote_conflicted, wrote_name}
-use borrow.Author.Rules.{rules}
 use Rattle.states.proofs.write_cell.Goals as goal
 
 pub returns-in-0 : goal.returns-in-0

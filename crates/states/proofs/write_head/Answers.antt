@@ -3,7 +3,6 @@ use native.Mathlib.Omega.{arith}
 use Rattle.lists.specs.Sets.{then}
 use Rattle.fields.specs.Spelling.{length_three}
 use Rattle.states.proofs.Laws.{head_spelled}
-use borrow.Author.Rules.{rules}
 use Rattle.states.proofs.write_head.Goals as goal
 
 pub write_before_number-c-requires : goal.write_before_number-c-requires

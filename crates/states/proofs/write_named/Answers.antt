@@ -2,7 +2,6 @@
 use native.Mathlib.Omega.{arith}
 use Rattle.report.specs.Lengths.{name_short}
 use Rattle.states.proofs.Laws.{wrote_marked, wrote_unmarked}
-use borrow.Author.Rules.{rules}
 use Rattle.states.proofs.write_named.Goals as goal
 
 pub write_packed_name-end-requires : goal.write_packed_name-end-requires

@@ -1,11 +1,6 @@
 use mathlib.Core.Path.{◌≡◌, refl}
-use Prim.Native.Nat.{◌+◌, ◌*◌, ◌-◌, ◌≤◌}
 use native.Mathlib.Omega.{arith}
-use lib.ListN.{length}
-use Rattle.lists.specs.Sets.{Wrote}
-use Rattle.states.specs.Stated.{row_text, longest_cell}
 use Rattle.states.proofs.Laws.{row_none, row_then}
-use borrow.Author.Rules.{rules}
 use Rattle.states.proofs.write_row.Goals as goal
 
 pub loop-i-init : goal.loop-i-init

@@ -1,12 +1,9 @@
 -- `write_row` meets its contract: a cell more each turn.
-use mathlib.Core.Path.{◌≡◌, refl}
+use mathlib.Core.Path.{◌≡◌}
 use Prim.Native.Nat.{◌+◌, ◌*◌, ◌-◌, ◌≤◌}
-use native.Mathlib.Omega.{arith}
 use lib.ListN.{length}
 use Rattle.lists.specs.Sets.{Wrote}
 use Rattle.states.specs.Stated.{row_text, longest_cell}
-use Rattle.states.proofs.Laws.{row_none, row_then}
-use borrow.Author.Rules.{rules}
 use Rattle.states.proofs.write_row.Given as goal
 
 abbrev pub invariant-loop-i : goal.invariant-loop-i

@@ -3,7 +3,6 @@
 use native.Mathlib.Omega.{arith}
 use Rattle.checker.proofs.Laws.{loaded_words, nothing_missing}
 use Rattle.states.proofs.LawsCall.{refused_none, text_full, text_missing, holds_states, same_text, written_none, written_text}
-use borrow.Author.Rules.{rules}
 use Rattle.states.proofs.write_states.Goals as goal
 
 pub returns-in_default : goal.returns-in_default

@@ -1,7 +1,5 @@
 -- `change` meets its contract: one case for each rule; the slot is below the count, so the word that is read means the state's
 -- cell; under the house rule what becomes of it is stored in the state that `overwrite` leaves.
-use mathlib.Core.List.{List, [], ◌∷◌}
-use borrow.Author.Rules.{rules}
 use Rattle.steps.proofs.LawsEffects.{old_change, house_change}
 use Rattle.steps.proofs.change.Goals as goal
 

@@ -4,7 +4,6 @@ use mathlib.Core.Option.{none}
 use mathlib.Core.Path.{◌≡◌, refl}
 use Prim.Native.Nat.{ℕ}
 use native.Mathlib.Omega.{arith}
-use borrow.Author.Rules.{rules}
 use Rattle.loaded.specs.declared.CopyKind.TheVariants.{Spill, Reload, Move}
 use Rattle.loaded.specs.declared.CopyKind.{CopyKind}
 use Rattle.steps.specs.Faults.{fault_of}

@@ -1,11 +1,8 @@
-use mathlib.Core.Path.{◌≡◌, refl, sym, ◌∙◌}
-use Prim.Native.Nat.{◌<◌, ◌^◌}
+use mathlib.Core.Path.{refl, sym, ◌∙◌}
 use native.Mathlib.Omega.{arith}
 use borrow.Author.Rules.{rules}
 use lib.Pow.{pow_pos}
 use lib.Count.{count_trailing_zeros}
-use Rattle.lists.specs.Bits.{set_bits}
-use Rattle.steps.specs.Checks.{first_error, slot_in}
 use Rattle.steps.proofs.LawsChecks.{no_slot, next_slot, slot_below, passed, failed}
 use Rattle.steps.proofs.check_stackmap.Goals as goal
 

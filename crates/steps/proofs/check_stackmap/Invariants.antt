@@ -1,14 +1,9 @@
 -- `check_stackmap` meets its contract: before each turn the bits that are left give the error that all of them give; the lowest is
 -- the next listed slot (`next_slot`), and the mask without it is less.
-use mathlib.Core.Path.{◌≡◌, refl, sym, ◌∙◌}
+use mathlib.Core.Path.{◌≡◌}
 use Prim.Native.Nat.{◌<◌, ◌^◌}
-use native.Mathlib.Omega.{arith}
-use borrow.Author.Rules.{rules}
-use lib.Pow.{pow_pos}
-use lib.Count.{count_trailing_zeros}
 use Rattle.lists.specs.Bits.{set_bits}
 use Rattle.steps.specs.Checks.{first_error, slot_in}
-use Rattle.steps.proofs.LawsChecks.{no_slot, next_slot, slot_below, passed, failed}
 use Rattle.steps.proofs.check_stackmap.Given as goal
 
 abbrev pub invariant-search : goal.invariant-search

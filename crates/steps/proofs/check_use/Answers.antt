@@ -1,6 +1,5 @@
 -- `check_use` meets its contract: its two tests are those of `use_error`.
 use borrow.Author.Tests.{eq-eqb, ne_eqb}
-use borrow.Author.Rules.{rules}
 use Rattle.steps.specs.Checks.{use_error}
 use Rattle.steps.proofs.check_use.Goals as goal
 

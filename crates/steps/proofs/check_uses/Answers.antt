@@ -1,11 +1,8 @@
-use mathlib.Core.Path.{◌≡◌, refl, sym, ◌∙◌}
-use Prim.Native.Nat.{◌+◌, ◌/◌, ◌≤◌, ◌<◌}
+use mathlib.Core.Path.{refl, sym, ◌∙◌}
+use Prim.Native.Nat.{◌/◌, ◌<◌}
 use native.Mathlib.Omega.{arith}
 use borrow.Author.Rules.{rules}
-use lib.ListN.{get_or}
 use Rattle.lists.specs.Regions.{at_place}
-use Rattle.lists.specs.Region.{region}
-use Rattle.steps.specs.Checks.{first_error, use_in}
 use Rattle.steps.proofs.LawsChecks.{no_use, next_use, passed, failed}
 use Rattle.steps.proofs.check_uses.Goals as goal
 
@@ -13,12 +10,18 @@ pub search-init : goal.search-init
 search-init c = (refl, search rules, refl)
 
 pub overflow_cast-reg : goal.overflow_cast-reg
-overflow_cast-reg c = omega (arith, (let inv = c.search.invariant in
-    at_place (λ u. u / 1024 < 32) _ _ c.args.words.now _ c.requires.1 inv.1 (omega (arith, c.if-left-eq0.false))))
+overflow_cast-reg c = omega (
+  arith,
+  (let inv = c.search.invariant in
+      at_place (λ u. u / 1024 < 32) _ _ c.args.words.now _ c.requires.1 inv.1 (omega (arith, c.if-left-eq0.false))),
+)
 
 pub offset_bounds-row-reg : goal.offset_bounds-row-reg
-offset_bounds-row-reg c = omega (arith, (let inv = c.search.invariant in
-    at_place (λ u. u / 1024 < 32) _ _ c.args.words.now _ c.requires.1 inv.1 (omega (arith, c.if-left-eq0.false))))
+offset_bounds-row-reg c = omega (
+  arith,
+  (let inv = c.search.invariant in
+      at_place (λ u. u / 1024 < 32) _ _ c.args.words.now _ c.requires.1 inv.1 (omega (arith, c.if-left-eq0.false))),
+)
 
 pub bounds-row-reg : goal.bounds-row-reg
 bounds-row-reg c = (let inv = c.search.invariant in

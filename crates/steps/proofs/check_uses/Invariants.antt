@@ -1,14 +1,9 @@
 -- `check_uses` meets its contract: before each turn the uses that are left give the error that all of them give, and there is one
 -- less each turn (`next_use`); each has a register below 32.
-use mathlib.Core.Path.{◌≡◌, refl, sym, ◌∙◌}
-use Prim.Native.Nat.{◌+◌, ◌/◌, ◌≤◌, ◌<◌}
-use native.Mathlib.Omega.{arith}
-use borrow.Author.Rules.{rules}
-use lib.ListN.{get_or}
-use Rattle.lists.specs.Regions.{at_place}
+use mathlib.Core.Path.{◌≡◌}
+use Prim.Native.Nat.{◌+◌, ◌≤◌}
 use Rattle.lists.specs.Region.{region}
 use Rattle.steps.specs.Checks.{first_error, use_in}
-use Rattle.steps.proofs.LawsChecks.{no_use, next_use, passed, failed}
 use Rattle.steps.proofs.check_uses.Given as goal
 
 abbrev pub invariant-search : goal.invariant-search

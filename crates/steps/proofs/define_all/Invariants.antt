@@ -1,16 +1,11 @@
 -- `define_all` meets its contract: before each turn the defs that are left, from the state so far, give what all of them give from
 -- the first state; there is one less each turn.
-use mathlib.Core.List.{List, [], ◌∷◌}
-use mathlib.Core.Path.{◌≡◌, refl, ◌∙◌}
-use Prim.Native.Nat.{ℕ, ◌+◌, ◌/◌, ◌≤◌, ◌<◌}
-use native.Mathlib.Omega.{arith}
-use borrow.Author.Rules.{rules}
-use Rattle.lists.specs.Regions.{at_place}
+use mathlib.Core.List.{List}
+use mathlib.Core.Path.{◌≡◌}
+use Prim.Native.Nat.{ℕ, ◌+◌, ◌≤◌}
 use Rattle.lists.specs.Region.{region}
-use Rattle.paper.specs.Limits.{max_regs}
 use Rattle.cells.specs.States.{state_of, RowsFit}
 use Rattle.steps.specs.Defs.{define_words}
-use Rattle.steps.proofs.LawsEffects.{no_def, next_def}
 use Rattle.steps.proofs.define_all.Given as goal
 
 abbrev pub invariant-loop-left : goal.invariant-loop-left

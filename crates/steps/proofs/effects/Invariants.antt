@@ -2,14 +2,11 @@
 -- the first state, for marks that are those of `T`; there is one less each turn.
 use mathlib.Core.List.{List}
 use mathlib.Core.Bool.{Bool}
-use mathlib.Core.Path.{◌≡◌, refl, ◌∙◌}
+use mathlib.Core.Path.{◌≡◌}
 use Prim.Native.Nat.{ℕ, ◌+◌, ◌≤◌}
-use native.Mathlib.Omega.{arith}
-use borrow.Author.Rules.{rules}
 use Rattle.paper.specs.Text.{Name}
 use Rattle.cells.specs.States.{state_of}
-use Rattle.loaded.specs.Actions.{steps_at, InRange, Runnable, StepsMarked}
-use Rattle.steps.proofs.LawsEffects.{no_step, next_step}
+use Rattle.loaded.specs.Actions.{steps_at, Runnable, StepsMarked}
 use Rattle.paper.specs.Steps as paper
 use Rattle.steps.proofs.effects.Given as goal
 

@@ -1,7 +1,6 @@
 -- `inst_of` meets its contract: one case for each kind of step; no copy has an inst (`copied`).
 use mathlib.Core.Path.{◌≡◌, refl}
 use Prim.Native.Nat.{ℕ}
-use borrow.Author.Rules.{rules}
 use Rattle.paper.specs.Report.{inst_of}
 use Rattle.loaded.specs.declared.CopyKind.{CopyKind}
 use Rattle.loaded.specs.declared.CopyKind.TheVariants.{Spill, Reload, Move}

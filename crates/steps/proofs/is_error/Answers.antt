@@ -2,7 +2,6 @@
 use mathlib.Core.List.{[], ◌∷◌}
 use mathlib.Core.Bool.{true}
 use mathlib.Core.Path.{◌≡◌, refl}
-use borrow.Author.Rules.{rules}
 use types.Run.{OneOf, miss}
 use denote.Enum.Declared.{tag_of}
 use Rattle.steps.specs.declared.CheckerError.TheVariants.{Nothing, UnknownValueInReg, IncorrectValueInReg, UnknownValueInSlot, IncorrectValueInSlot, StackMapSpecifiesNonRefSlot, StackMapSpecifiesUndefinedSlot}

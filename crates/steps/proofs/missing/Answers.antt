@@ -4,7 +4,6 @@ use mathlib.Core.Bool.{false}
 use mathlib.Core.Path.{◌≡◌, refl, sym, ◌∙◌}
 use Prim.Native.Nat.{ℕ}
 use native.Mathlib.Omega.{arith}
-use borrow.Author.Rules.{rules}
 use types.Run.{OneOf, miss}
 use denote.Enum.Declared.{tag_of}
 use Rattle.paper.specs.Report.{missing_names}

@@ -1,10 +1,5 @@
-use mathlib.Core.Path.{◌≡◌, refl, sym, ◌∙◌}
-use Prim.Native.Nat.{◌+◌}
+use mathlib.Core.Path.{refl, sym, ◌∙◌}
 use native.Mathlib.Omega.{arith}
-use borrow.Author.Rules.{rules}
-use Rattle.paper.specs.Report.{unallocated}
-use Rattle.steps.specs.Faults.{some_in}
-use Rattle.loaded.specs.Actions.{operands}
 use Rattle.steps.proofs.LawsMissing.{none_missing, missing_here, missing_later}
 use Rattle.steps.proofs.missing_among.Goals as goal
 

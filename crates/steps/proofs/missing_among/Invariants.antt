@@ -1,12 +1,9 @@
 -- `missing_among` meets its contract: before each turn the operands that are left tell what all tell; there is one less each turn.
-use mathlib.Core.Path.{◌≡◌, refl, sym, ◌∙◌}
+use mathlib.Core.Path.{◌≡◌}
 use Prim.Native.Nat.{◌+◌}
-use native.Mathlib.Omega.{arith}
-use borrow.Author.Rules.{rules}
 use Rattle.paper.specs.Report.{unallocated}
 use Rattle.steps.specs.Faults.{some_in}
 use Rattle.loaded.specs.Actions.{operands}
-use Rattle.steps.proofs.LawsMissing.{none_missing, missing_here, missing_later}
 use Rattle.steps.proofs.missing_among.Given as goal
 
 abbrev pub invariant-loop-left : goal.invariant-loop-left

@@ -1,9 +1,7 @@
 -- `update` meets its contract: one case for each kind of step; what the function called says of the state is the paper's effect,
 -- by a law of `LawsEffects` or, for `C`, by `change` itself.
-use mathlib.Core.List.{List, [], ◌∷◌}
 use mathlib.Core.Path.{◌∙◌}
 use native.Mathlib.Omega.{arith}
-use borrow.Author.Rules.{rules}
 use Rattle.loaded.specs.Actions.{step_of}
 use Rattle.steps.proofs.LawsEffects.{copy_room, copy_effect, safepoint_effect, operation_effect}
 use Rattle.steps.proofs.update.Goals as goal

@@ -1,9 +1,4 @@
 use native.Mathlib.Omega.{arith}
-use borrow.Author.Rules.{rules}
-use Rattle.tables.proofs.enter.Reads as reads
-use Rattle.tables.proofs.enter.Lts as lts
-use Rattle.cells.proofs.store.Reads as store_reads
-use Rattle.loaded.proofs.row_counts.Reads as row_counts_reads
 use Rattle.tables.specs.Laws.{counts_fit, entered_is}
 use Rattle.tables.proofs.enter.Goals as goal
 

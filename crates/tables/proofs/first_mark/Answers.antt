@@ -1,6 +1,5 @@
 -- `first_mark` meets its contract: one case for each rule.
 use mathlib.Core.Path.{refl}
-use borrow.Author.Rules.{rules}
 use Rattle.paper.specs.Runs.{before}
 use Rattle.tables.specs.Table.{mark_of}
 use Rattle.tables.proofs.first_mark.Goals as goal

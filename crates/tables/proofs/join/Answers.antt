@@ -1,10 +1,4 @@
 use native.Mathlib.Omega.{arith}
-use borrow.Author.Rules.{rules}
-use Rattle.tables.proofs.join.Reads as reads
-use Rattle.tables.proofs.join.Lts as lts
-use Rattle.cells.proofs.meet_with.Reads as meet_with_reads
-use Rattle.tables.proofs.enter.Reads as enter_reads
-use Rattle.loaded.proofs.row_counts.Reads as row_counts_reads
 use Rattle.tables.specs.Laws.{counts_fit, came_first, came_again}
 use Rattle.tables.proofs.join.Goals as goal
 

@@ -1,12 +1,6 @@
 -- `result_of` meets its contract: the words hold block b's state and the sheet's steps of b, and `effects` runs these from it; where
 -- no allocation is missing, a loaded sheet's steps can be run.
-use Prim.Native.Nat.{◌+◌, ◌*◌}
-use native.Mathlib.Omega.{arith}
-use borrow.Author.Rules.{rules}
-use Rattle.layout.specs.Layout.{block_base, block_words}
-use Rattle.loaded.specs.Actions.{Runnable}
 use Rattle.loaded.specs.Laws.{runnable_most}
-use Rattle.loaded.specs.Loaded.{first_step, step_total, counts_in}
 use Rattle.tables.specs.Allowed.{loaded_runnable}
 use Rattle.tables.proofs.LawsResult.{result_is}
 use Rattle.tables.proofs.result_of.Goals as goal

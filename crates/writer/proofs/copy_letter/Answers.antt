@@ -1,7 +1,6 @@
 -- `copy_letter` meets its contract, kind by kind.
 use mathlib.Core.Path.{refl}
 use Rattle.writer.specs.Form.{copy_letter}
-use borrow.Author.Rules.{rules}
 use Rattle.writer.proofs.copy_letter.Goals as goal
 
 pub returns-in-Spill : goal.returns-in-Spill

@@ -1,12 +1,8 @@
 use native.Mathlib.Omega.{arith}
-use mathlib.Core.Path.{◌≡◌, refl, sym, ◌∙◌}
-use Prim.Native.Nat.{◌+◌, ◌*◌, ◌-◌, ◌≤◌}
-use lib.ListN.{length}
-use Rattle.paper.specs.Limits.{max_blocks, words_size}
+use mathlib.Core.Path.{sym, ◌∙◌}
+use Prim.Native.Nat.{◌+◌, ◌*◌}
 use Rattle.layout.specs.Layout.{block_base, block_words, step_total_word}
-use Rattle.writer.specs.Form.{blocks_fit, fits}
 use Rattle.writer.proofs.LawsLines.{fit_next, fit_succs, fit_steps, fit_end, fits_sized, fits_opened, fits_all}
-use borrow.Author.Rules.{rules}
 use Rattle.writer.proofs.fits.Goals as goal
 
 pub returns-then-words-lt-WORDS_SIZE : goal.returns-then-words-lt-WORDS_SIZE
@@ -42,12 +38,12 @@ returns-then-first_step-step_total-gt-MAX_STEPS c = sym (c.loop-b.invariant.3 �
 
 pub loop-b-preserved : goal.loop-b-preserved
 loop-b-preserved c = let inv = c.loop-b.invariant in (
-      omega arith,
-      inv.1,
-      inv.2,
-      inv.3 ∙ fit_next _ _ _ c.loop-b-test.true (omega (arith, c.succ_total.ensures, c.if-succ_total-gt-MAX_SUCCS.false))
-          (omega (arith, c.step_total.ensures, c.first_step.ensures, c.if-first_step-step_total-gt-MAX_STEPS.false)),
-    )
+  omega arith,
+  inv.1,
+  inv.2,
+  inv.3 ∙ fit_next _ _ _ c.loop-b-test.true (omega (arith, c.succ_total.ensures, c.if-succ_total-gt-MAX_SUCCS.false))
+      (omega (arith, c.step_total.ensures, c.first_step.ensures, c.if-first_step-step_total-gt-MAX_STEPS.false)),
+)
 
 pub returns : goal.returns
 returns c = let inv = c.loop-b.invariant in sym (inv.3 ∙ fit_end _ _ _ (omega arith))

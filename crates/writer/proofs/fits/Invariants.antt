@@ -1,13 +1,9 @@
 -- `fits` meets its contract: before each turn the blocks from b on fit exactly where all do.
-use native.Mathlib.Omega.{arith}
-use mathlib.Core.Path.{◌≡◌, refl, sym, ◌∙◌}
-use Prim.Native.Nat.{◌+◌, ◌*◌, ◌-◌, ◌≤◌}
+use mathlib.Core.Path.{◌≡◌}
+use Prim.Native.Nat.{◌-◌, ◌≤◌}
 use lib.ListN.{length}
 use Rattle.paper.specs.Limits.{max_blocks, words_size}
-use Rattle.layout.specs.Layout.{block_base, block_words, step_total_word}
 use Rattle.writer.specs.Form.{blocks_fit, fits}
-use Rattle.writer.proofs.LawsLines.{fit_next, fit_succs, fit_steps, fit_end, fits_sized, fits_opened, fits_all}
-use borrow.Author.Rules.{rules}
 use Rattle.writer.proofs.fits.Given as goal
 
 abbrev pub invariant-loop-b : goal.invariant-loop-b

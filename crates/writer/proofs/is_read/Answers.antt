@@ -1,7 +1,6 @@
 -- `is_read` meets its contract: the reader's answer says whether the text is read.
 use mathlib.Core.Path.{sym, ◌∙◌}
 use Rattle.writer.proofs.LawsText.{loaded_read, refused_read}
-use borrow.Author.Rules.{rules}
 use Rattle.writer.proofs.is_read.Goals as goal
 
 pub returns-in-Loaded : goal.returns-in-Loaded

@@ -1,6 +1,5 @@
 -- `itanropen_load` meets its contract.
 use Rattle.writer.proofs.LawsLoad.{load_exported}
-use borrow.Author.Rules.{rules}
 use Rattle.writer.proofs.itanropen_load.Goals as goal
 
 pub returns : goal.returns

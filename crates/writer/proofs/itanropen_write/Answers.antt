@@ -1,6 +1,5 @@
 -- `itanropen_write` meets its contract.
 use Rattle.writer.proofs.LawsSheet.{exported}
-use borrow.Author.Rules.{rules}
 use Rattle.writer.proofs.itanropen_write.Goals as goal
 
 pub returns : goal.returns

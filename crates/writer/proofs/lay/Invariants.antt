@@ -1,13 +1,8 @@
 -- `lay` meets its contract: whoever writes the bytes from the i-th on has written the text.
-use native.Mathlib.Omega.{arith}
-use mathlib.Core.Path.{◌≡◌, refl, ◌∙◌}
-use Prim.Native.Nat.{◌+◌, ◌-◌, ◌≤◌}
+use mathlib.Core.Path.{◌≡◌}
+use Prim.Native.Nat.{◌-◌, ◌≤◌}
 use lib.ListN.{length, drop}
-use Rattle.lists.specs.Sets.{length_wrote}
-use Rattle.report.specs.Laid.{wrote_laid}
-use Rattle.writer.proofs.LawsLeft.{Finishes, all_left, less_left, none_left}
-use Rattle.writer.proofs.LawsText.{lay_next, lay_end}
-use borrow.Author.Rules.{rules}
+use Rattle.writer.proofs.LawsLeft.{Finishes}
 use Rattle.writer.proofs.lay.Given as goal
 
 abbrev pub invariant-loop-i : goal.invariant-loop-i

@@ -1,6 +1,5 @@
 -- `load_sheet` meets its contract: too few words, then by the reader's answer.
 use Rattle.writer.proofs.LawsLoad.{refused_short, read_loaded, read_refused}
-use borrow.Author.Rules.{rules}
 use Rattle.writer.proofs.load_sheet.Goals as goal
 
 pub returns-then-words-lt-WORDS_SIZE : goal.returns-then-words-lt-WORDS_SIZE

@@ -1,7 +1,6 @@
 -- `load_verdict_of` meets its contract, answer by answer.
 use mathlib.Core.Path.{refl}
 use Rattle.writer.specs.Load.{load_verdict_of}
-use borrow.Author.Rules.{rules}
 use Rattle.writer.proofs.load_verdict_of.Goals as goal
 
 pub returns-in-Loaded : goal.returns-in-Loaded

@@ -1,7 +1,6 @@
 -- `verdict_of` meets its contract, answer by answer.
 use mathlib.Core.Path.{refl}
 use Rattle.writer.specs.Form.{verdict_of}
-use borrow.Author.Rules.{rules}
 use Rattle.writer.proofs.verdict_of.Goals as goal
 
 pub returns-in-Text : goal.returns-in-Text

@@ -1,6 +1,5 @@
 -- `write_all_typed` meets its contract: whoever writes the lines of the names from n on has written those of all; at most 8 bytes for each.
-use native.Mathlib.Omega.{arith}
-use mathlib.Core.Path.{◌≡◌, refl}
+use mathlib.Core.Path.{◌≡◌}
 use mathlib.Core.List.{map}
 use Prim.Native.Nat.{◌+◌, ◌*◌, ◌-◌, ◌≤◌}
 use lib.ListN.{length}
@@ -8,9 +7,8 @@ use Rattle.paper.specs.Refusals.{typed_record}
 use Rattle.paper.specs.Writing.{records_text}
 use Rattle.layout.specs.Layout.{typed_words}
 use Rattle.loaded.specs.Loaded.{marked_from}
-use Rattle.writer.proofs.LawsLeft.{Finishes, all_left, less_left, none_left}
-use Rattle.writer.proofs.LawsLines.{typed_left, typed_next, typed_all, typed_end}
-use borrow.Author.Rules.{rules}
+use Rattle.writer.proofs.LawsLeft.{Finishes}
+use Rattle.writer.proofs.LawsLines.{typed_left}
 use Rattle.writer.proofs.write_all_typed.Given as goal
 
 abbrev pub invariant-loop-n : goal.invariant-loop-n

@@ -1,6 +1,5 @@
 -- `write_back` meets its contract: too few words, then by the answer of `load_sheet`.
 use Rattle.writer.proofs.LawsLoad.{back_short, back_refused, back_written}
-use borrow.Author.Rules.{rules}
 use Rattle.writer.proofs.write_back.Goals as goal
 
 pub returns-then-words-lt-WORDS_SIZE : goal.returns-then-words-lt-WORDS_SIZE

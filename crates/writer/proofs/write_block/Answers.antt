@@ -2,7 +2,6 @@
 use native.Mathlib.Omega.{arith}
 use Rattle.writer.specs.Filled.{length_filled, filled_then}
 use Rattle.writer.proofs.LawsText.{block_lines}
-use borrow.Author.Rules.{rules}
 use Rattle.writer.proofs.write_block.Goals as goal
 
 pub first_step-first-requires : goal.first_step-first-requires
@@ -16,10 +15,10 @@ write_opening-opened-requires c = (c.requires.0, c.requires.1, c.requires.2.succ
 
 pub write_steps-requires : goal.write_steps-requires
 write_steps-requires c = (
-      c.requires.0,
-      omega (arith, c.step_total-total.ensures, c.first_step-first.ensures, c.requires.2.steps),
-      omega (arith, length_filled c.write_opening-opened.ensures, c.requires.3),
-    )
+  c.requires.0,
+  omega (arith, c.step_total-total.ensures, c.first_step-first.ensures, c.requires.2.steps),
+  omega (arith, length_filled c.write_opening-opened.ensures, c.requires.3),
+)
 
 pub returns : goal.returns
 returns c = rw (← block_lines _ _) (filled_then c.write_opening-opened.ensures (rw (c.first_step-first.ensures, c.step_total-total.ensures) at c.write_steps.ensures))

@@ -1,19 +1,9 @@
 use native.Mathlib.Omega.{arith}
-use mathlib.Core.Path.{◌≡◌, refl, ap, ◌∙◌}
-use mathlib.Core.Bool.{true}
-use mathlib.Core.List.{map}
-use Prim.Native.Nat.{ℕ, ◌+◌, ◌-◌, ◌≤◌}
-use lib.ListN.{length, get_or}
-use Rattle.paper.specs.Limits.{max_sheet}
-use Rattle.paper.specs.Writing.{records_text, block_records}
-use Rattle.layout.specs.Layout.{opened_word}
-use Rattle.loaded.specs.Loaded.{blocks_at}
+use mathlib.Core.Path.{refl, ap, ◌∙◌}
 use Rattle.loaded.specs.declared.Reached.{Reached}
-use Rattle.writer.specs.Form.{fits}
-use Rattle.writer.specs.Filled.{line_room, length_filled}
-use Rattle.writer.proofs.LawsLeft.{Fills, all_unfilled, less_unfilled, none_unfilled}
-use Rattle.writer.proofs.LawsText.{blocks_left, blocks_next, blocks_begin, blocks_end, fitting}
-use borrow.Author.Rules.{rules}
+use Rattle.writer.specs.Filled.{length_filled}
+use Rattle.writer.proofs.LawsLeft.{all_unfilled, less_unfilled, none_unfilled}
+use Rattle.writer.proofs.LawsText.{blocks_next, blocks_begin, blocks_end, fitting}
 use Rattle.writer.proofs.write_blocks.Goals as goal
 
 pub progress-reached-requires : goal.progress-reached-requires

@@ -1,20 +1,16 @@
 -- `write_blocks` meets its contract: whoever fills in the blocks from b on has filled in all.
-use native.Mathlib.Omega.{arith}
-use mathlib.Core.Path.{◌≡◌, refl, ap, ◌∙◌}
+use mathlib.Core.Path.{◌≡◌}
 use mathlib.Core.Bool.{true}
-use mathlib.Core.List.{map}
-use Prim.Native.Nat.{ℕ, ◌+◌, ◌-◌, ◌≤◌}
+use Prim.Native.Nat.{◌+◌, ◌-◌, ◌≤◌}
 use lib.ListN.{length, get_or}
 use Rattle.paper.specs.Limits.{max_sheet}
 use Rattle.paper.specs.Writing.{records_text, block_records}
 use Rattle.layout.specs.Layout.{opened_word}
 use Rattle.loaded.specs.Loaded.{blocks_at}
-use Rattle.loaded.specs.declared.Reached.{Reached}
 use Rattle.writer.specs.Form.{fits}
-use Rattle.writer.specs.Filled.{line_room, length_filled}
-use Rattle.writer.proofs.LawsLeft.{Fills, all_unfilled, less_unfilled, none_unfilled}
-use Rattle.writer.proofs.LawsText.{blocks_left, blocks_next, blocks_begin, blocks_end, fitting}
-use borrow.Author.Rules.{rules}
+use Rattle.writer.specs.Filled.{line_room}
+use Rattle.writer.proofs.LawsLeft.{Fills}
+use Rattle.writer.proofs.LawsText.{blocks_left}
 use Rattle.writer.proofs.write_blocks.Given as goal
 
 abbrev pub invariant-loop-b : goal.invariant-loop-b

@@ -4,7 +4,6 @@ use Rattle.lists.specs.Sets.{then}
 use Rattle.fields.specs.Spelling.{length_digits}
 use Rattle.paper.specs.Report.{behind_tabs}
 use Rattle.paper.specs.Writing.{letter_of, texts_of, record_text}
-use borrow.Author.Rules.{rules}
 use Rattle.writer.proofs.write_change.Goals as goal
 
 pub write_before_number-b-requires : goal.write_before_number-b-requires

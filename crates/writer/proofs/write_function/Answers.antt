@@ -7,7 +7,6 @@ use lib.ListN.{length}
 use Rattle.paper.specs.Text.{digits}
 use Rattle.paper.specs.Report.{behind_tabs}
 use Rattle.paper.specs.Writing.{letter_of, texts_of, record_text}
-use borrow.Author.Rules.{rules}
 use Rattle.writer.proofs.write_function.Goals as goal
 
 -- each number has at most five digits
@@ -39,7 +38,7 @@ write_byte-requires c = omega (arith, few_digits c.args.counts.slots c.args.coun
 pub returns : goal.returns
 unfolding behind_tabs letter_of texts_of record_text
 returns c = let last = then c.write_before_number-e.ensures c.write_byte.ensures in (
-      then c.write_lettered-a.ensures.0
-          (then c.write_before_number-b.ensures (then c.write_before_number-c.ensures (then c.write_before_number-d.ensures last))),
-      omega (arith, few_digits c.args.counts.slots c.args.counts.vregs c.args.counts.blocks c.args.entry),
-    )
+  then c.write_lettered-a.ensures.0
+      (then c.write_before_number-b.ensures (then c.write_before_number-c.ensures (then c.write_before_number-d.ensures last))),
+  omega (arith, few_digits c.args.counts.slots c.args.counts.vregs c.args.counts.blocks c.args.entry),
+)

@@ -2,7 +2,6 @@
 use native.Mathlib.Omega.{arith}
 use Rattle.lists.specs.Sets.{then}
 use Rattle.writer.proofs.LawsText.{groups_line}
-use borrow.Author.Rules.{rules}
 use Rattle.writer.proofs.write_groups.Goals as goal
 
 pub write_group-a-requires : goal.write_group-a-requires

@@ -2,7 +2,6 @@
 use native.Mathlib.Omega.{arith}
 use Rattle.lists.specs.Sets.{then}
 use Rattle.fields.specs.Spelling.{length_digits}
-use borrow.Author.Rules.{rules}
 use Rattle.writer.proofs.write_lettered.Goals as goal
 
 pub write_before_number-requires : goal.write_before_number-requires

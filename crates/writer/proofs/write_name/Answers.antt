@@ -2,7 +2,6 @@
 use native.Mathlib.Omega.{arith}
 use Rattle.lists.specs.Sets.{then}
 use Rattle.report.specs.Lengths.{name_short}
-use borrow.Author.Rules.{rules}
 use Rattle.writer.proofs.write_name.Goals as goal
 
 pub write_packed_name-requires : goal.write_packed_name-requires

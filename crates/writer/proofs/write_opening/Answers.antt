@@ -5,7 +5,6 @@ use Rattle.paper.specs.Writing.{letter_of}
 use Rattle.writer.specs.Filled.{whole}
 use Rattle.writer.proofs.LawsLeft.{unwritten}
 use Rattle.writer.proofs.LawsText.{block_text}
-use borrow.Author.Rules.{rules}
 use Rattle.writer.proofs.write_opening.Goals as goal
 
 pub returns-then-at-gt-MAX_SHEET : goal.returns-then-at-gt-MAX_SHEET

@@ -1,16 +1,13 @@
 -- `write_operands` meets its contract: whoever writes the operands from the i-th on has written all; at most 11 bytes for each.
-use native.Mathlib.Omega.{arith}
-use mathlib.Core.Path.{◌≡◌, refl}
+use mathlib.Core.Path.{◌≡◌}
 use Prim.Native.Nat.{◌+◌, ◌*◌, ◌-◌, ◌≤◌, ◌<◌}
 use lib.ListN.{length}
-use Rattle.lists.specs.Sets.{then}
 use Rattle.lists.specs.Region.{region}
 use Rattle.paper.specs.Writing.{operand_texts}
 use Rattle.loaded.specs.Actions.{operands}
 use Rattle.spelling.specs.Parted.{row}
-use Rattle.writer.proofs.LawsLeft.{Finishes, all_left, less_left, none_left}
-use Rattle.writer.proofs.LawsLines.{operands_text, operands_next, operands_all, operands_end}
-use borrow.Author.Rules.{rules}
+use Rattle.writer.proofs.LawsLeft.{Finishes}
+use Rattle.writer.proofs.LawsLines.{operands_text}
 use Rattle.writer.proofs.write_operands.Given as goal
 
 abbrev pub invariant-loop-i : goal.invariant-loop-i

@@ -3,7 +3,6 @@ use native.Mathlib.Omega.{arith}
 use Rattle.lists.specs.Sets.{then}
 use Rattle.fields.specs.Spelling.{length_digits}
 use Rattle.paper.specs.Report.{behind_tabs}
-use borrow.Author.Rules.{rules}
 use Rattle.writer.proofs.write_pair.Goals as goal
 
 pub write_before_number-y-requires : goal.write_before_number-y-requires

@@ -5,7 +5,6 @@ use Rattle.fields.specs.Spelling.{length_digits}
 use borrow.Author.Tests.{eq-eqb, ne_eqb}
 use Rattle.paper.specs.Writing.{allocation_text}
 use Rattle.loaded.specs.Actions.{register_of}
-use borrow.Author.Rules.{rules}
 use Rattle.writer.proofs.write_register.Goals as goal
 
 pub write_before_number-requires : goal.write_before_number-requires

@@ -1,9 +1,7 @@
 -- `write_safepoint` meets its contract: its three parts, one behind the other.
-use native.Mathlib.Omega.{arith}
 use Rattle.lists.specs.Sets.{then}
 use Rattle.paper.specs.Writing.{letter_of}
 use Rattle.writer.proofs.LawsText.{safepoint_text}
-use borrow.Author.Rules.{rules}
 use Rattle.writer.proofs.write_safepoint.Goals as goal
 
 pub returns : goal.returns

@@ -1,12 +1,8 @@
 -- `write_sheet` meets its contract: by the answers of `fits` and of the reader, the text's length, and the room.
 use native.Mathlib.Omega.{arith}
-use mathlib.Core.Path.{◌≡◌, sym, ◌∙◌}
-use mathlib.Core.Bool.{true}
-use borrow.Author.Tests.{not-true, not-false}
+use mathlib.Core.Path.{sym, ◌∙◌}
 use lib.ListN.{length-take}
-use Rattle.writer.specs.Form.{fits}
 use Rattle.writer.proofs.LawsSheet.{no_form, too_long, turned_away, no_room, text_laid}
-use borrow.Author.Rules.{rules}
 use Rattle.writer.proofs.write_sheet.Goals as goal
 
 pub returns-then-not-fits : goal.returns-then-not-fits

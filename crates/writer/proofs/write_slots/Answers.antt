@@ -1,16 +1,10 @@
 use native.Mathlib.Omega.{arith}
 use Rattle.fields.specs.Spelling.{length_digits}
-use mathlib.Core.Path.{◌≡◌, refl, sym, ◌∙◌}
-use mathlib.Core.List.{map}
-use Prim.Native.Nat.{◌+◌, ◌*◌, ◌-◌, ◌≤◌, ◌<◌, ◌^◌}
-use lib.ListN.{length}
+use mathlib.Core.Path.{refl}
 use lib.Count.{count_trailing_zeros}
 use lib.Pow.{pow_pos}
-use Rattle.lists.specs.Bits.{set_bits}
-use Rattle.paper.specs.Text.{digits}
-use Rattle.spelling.specs.Parted.{row}
-use Rattle.writer.proofs.LawsLeft.{Finishes, all_left, less_left, none_left}
-use Rattle.writer.proofs.LawsLines.{slots_text, slots_next, slots_all, slots_end, bits_next, few_bits}
+use Rattle.writer.proofs.LawsLeft.{all_left, less_left, none_left}
+use Rattle.writer.proofs.LawsLines.{slots_next, slots_all, slots_end, bits_next, few_bits}
 use borrow.Author.Rules.{rules}
 use Rattle.writer.proofs.write_slots.Goals as goal
 

@@ -1,18 +1,13 @@
 -- `write_slots` meets its contract: whoever writes the slots that are left of the mask has written all; at most 6 bytes for each.
-use native.Mathlib.Omega.{arith}
-use Rattle.fields.specs.Spelling.{length_digits}
-use mathlib.Core.Path.{◌≡◌, refl, sym, ◌∙◌}
+use mathlib.Core.Path.{◌≡◌}
 use mathlib.Core.List.{map}
-use Prim.Native.Nat.{◌+◌, ◌*◌, ◌-◌, ◌≤◌, ◌<◌, ◌^◌}
+use Prim.Native.Nat.{◌+◌, ◌*◌, ◌≤◌, ◌<◌, ◌^◌}
 use lib.ListN.{length}
-use lib.Count.{count_trailing_zeros}
-use lib.Pow.{pow_pos}
 use Rattle.lists.specs.Bits.{set_bits}
 use Rattle.paper.specs.Text.{digits}
 use Rattle.spelling.specs.Parted.{row}
-use Rattle.writer.proofs.LawsLeft.{Finishes, all_left, less_left, none_left}
-use Rattle.writer.proofs.LawsLines.{slots_text, slots_next, slots_all, slots_end, bits_next, few_bits}
-use borrow.Author.Rules.{rules}
+use Rattle.writer.proofs.LawsLeft.{Finishes}
+use Rattle.writer.proofs.LawsLines.{slots_text}
 use Rattle.writer.proofs.write_slots.Given as goal
 
 abbrev pub invariant-loop-left : goal.invariant-loop-left

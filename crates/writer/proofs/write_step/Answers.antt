@@ -1,11 +1,8 @@
 -- `write_step` meets its contract: nothing behind every sheet's end, else the line of the action that the words hold.
 use native.Mathlib.Omega.{arith}
-use Rattle.lists.specs.Sets.{then}
-use mathlib.Core.Path.{◌≡◌, sym, ◌∙◌}
-use Rattle.loaded.specs.Actions.{action_at}
+use mathlib.Core.Path.{sym, ◌∙◌}
 use Rattle.writer.proofs.LawsLeft.{unwritten}
 use Rattle.writer.proofs.LawsText.{copy_written, change_written, operation_written, safepoint_written, copy_small, change_small, operation_small}
-use borrow.Author.Rules.{rules}
 use Rattle.writer.proofs.write_step.Goals as goal
 
 pub returns-then-at-gt-MAX_SHEET : goal.returns-then-at-gt-MAX_SHEET

@@ -1,16 +1,8 @@
 use native.Mathlib.Omega.{arith}
-use mathlib.Core.Path.{◌≡◌, refl, ◌∙◌}
-use mathlib.Core.List.{map}
-use Prim.Native.Nat.{◌+◌, ◌-◌, ◌≤◌}
-use lib.ListN.{length}
-use Rattle.paper.specs.Limits.{max_steps, max_sheet, words_size}
-use Rattle.paper.specs.Refusals.{step_record}
-use Rattle.paper.specs.Writing.{records_text}
-use Rattle.loaded.specs.Actions.{steps_at}
-use Rattle.writer.specs.Filled.{line_room, length_filled}
-use Rattle.writer.proofs.LawsLeft.{Fills, all_unfilled, less_unfilled, none_unfilled}
-use Rattle.writer.proofs.LawsText.{steps_left, steps_next, steps_all, steps_end}
-use borrow.Author.Rules.{rules}
+use mathlib.Core.Path.{refl, ◌∙◌}
+use Rattle.writer.specs.Filled.{length_filled}
+use Rattle.writer.proofs.LawsLeft.{all_unfilled, less_unfilled, none_unfilled}
+use Rattle.writer.proofs.LawsText.{steps_next, steps_all, steps_end}
 use Rattle.writer.proofs.write_steps.Goals as goal
 
 pub loop-i-init : goal.loop-i-init

@@ -1,6 +1,5 @@
 -- `write_steps` meets its contract: whoever fills in the steps from the i-th on has filled in all.
-use native.Mathlib.Omega.{arith}
-use mathlib.Core.Path.{◌≡◌, refl, ◌∙◌}
+use mathlib.Core.Path.{◌≡◌}
 use mathlib.Core.List.{map}
 use Prim.Native.Nat.{◌+◌, ◌-◌, ◌≤◌}
 use lib.ListN.{length}
@@ -8,10 +7,9 @@ use Rattle.paper.specs.Limits.{max_steps, max_sheet, words_size}
 use Rattle.paper.specs.Refusals.{step_record}
 use Rattle.paper.specs.Writing.{records_text}
 use Rattle.loaded.specs.Actions.{steps_at}
-use Rattle.writer.specs.Filled.{line_room, length_filled}
-use Rattle.writer.proofs.LawsLeft.{Fills, all_unfilled, less_unfilled, none_unfilled}
-use Rattle.writer.proofs.LawsText.{steps_left, steps_next, steps_all, steps_end}
-use borrow.Author.Rules.{rules}
+use Rattle.writer.specs.Filled.{line_room}
+use Rattle.writer.proofs.LawsLeft.{Fills}
+use Rattle.writer.proofs.LawsText.{steps_left}
 use Rattle.writer.proofs.write_steps.Given as goal
 
 abbrev pub invariant-loop-i : goal.invariant-loop-i

@@ -1,17 +1,10 @@
 use native.Mathlib.Omega.{arith}
 use Rattle.fields.specs.Spelling.{length_digits}
-use mathlib.Core.Path.{◌≡◌, refl}
-use mathlib.Core.List.{map}
-use Prim.Native.Nat.{◌+◌, ◌*◌, ◌-◌, ◌≤◌, ◌<◌}
-use lib.ListN.{length}
-use Rattle.lists.specs.Region.{region}
-use Rattle.paper.specs.Text.{digits}
-use Rattle.paper.specs.Limits.{max_blocks, max_succs, words_size}
+use mathlib.Core.Path.{refl}
+use Prim.Native.Nat.{◌+◌}
 use Rattle.layout.specs.Layout.{succ_base}
-use Rattle.spelling.specs.Parted.{row}
-use Rattle.writer.proofs.LawsLeft.{Finishes, all_left, less_left, none_left}
-use Rattle.writer.proofs.LawsLines.{numbers_text, numbers_next, numbers_all, numbers_end}
-use borrow.Author.Rules.{rules}
+use Rattle.writer.proofs.LawsLeft.{all_left, less_left, none_left}
+use Rattle.writer.proofs.LawsLines.{numbers_next, numbers_all, numbers_end}
 use Rattle.writer.proofs.write_successors.Goals as goal
 
 pub loop-i-init : goal.loop-i-init
@@ -37,15 +30,15 @@ write_before_number-next-requires c = omega (arith, length_digits c.successor-su
 
 pub loop-i-preserved : goal.loop-i-preserved
 loop-i-preserved c = let inv = c.loop-i.invariant in (
-      omega arith,
-      inv.1,
-      inv.2,
-      inv.3,
-      omega (arith, length_digits c.successor-successor.result),
-      inv.5,
-      omega arith,
-      less_left _ _ inv.7 (numbers_next _ _ _ _ (omega arith) (omega arith)) (rw c.successor-successor.ensures at c.write_before_number-next.ensures),
-    )
+  omega arith,
+  inv.1,
+  inv.2,
+  inv.3,
+  omega (arith, length_digits c.successor-successor.result),
+  inv.5,
+  omega arith,
+  less_left _ _ inv.7 (numbers_next _ _ _ _ (omega arith) (omega arith)) (rw c.successor-successor.ensures at c.write_before_number-next.ensures),
+)
 
 pub returns : goal.returns
 returns c = let inv = c.loop-i.invariant in

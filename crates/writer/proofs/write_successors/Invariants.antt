@@ -1,7 +1,5 @@
 -- `write_successors` meets its contract: whoever writes the successors from the i-th on has written all; at most 6 bytes for each.
-use native.Mathlib.Omega.{arith}
-use Rattle.fields.specs.Spelling.{length_digits}
-use mathlib.Core.Path.{◌≡◌, refl}
+use mathlib.Core.Path.{◌≡◌}
 use mathlib.Core.List.{map}
 use Prim.Native.Nat.{◌+◌, ◌*◌, ◌-◌, ◌≤◌, ◌<◌}
 use lib.ListN.{length}
@@ -10,9 +8,8 @@ use Rattle.paper.specs.Text.{digits}
 use Rattle.paper.specs.Limits.{max_blocks, max_succs, words_size}
 use Rattle.layout.specs.Layout.{succ_base}
 use Rattle.spelling.specs.Parted.{row}
-use Rattle.writer.proofs.LawsLeft.{Finishes, all_left, less_left, none_left}
-use Rattle.writer.proofs.LawsLines.{numbers_text, numbers_next, numbers_all, numbers_end}
-use borrow.Author.Rules.{rules}
+use Rattle.writer.proofs.LawsLeft.{Finishes}
+use Rattle.writer.proofs.LawsLines.{numbers_text}
 use Rattle.writer.proofs.write_successors.Given as goal
 
 abbrev pub invariant-loop-i : goal.invariant-loop-i

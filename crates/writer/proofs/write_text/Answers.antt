@@ -1,13 +1,9 @@
 -- `write_text` meets its contract: the `F` line, the `T` lines and the blocks, one behind the other.
 use native.Mathlib.Omega.{arith}
-use Prim.Native.Nat.{◌+◌, ◌≤◌}
-use lib.ListN.{length}
-use Rattle.lists.specs.Sets.{length_wrote}
 use Rattle.lists.specs.Region.{region, length_region}
 use Rattle.layout.specs.Layout.{entry_word, typed_base, typed_words}
 use Rattle.writer.specs.Filled.{whole, filled_then}
 use Rattle.writer.proofs.LawsText.{fitting, whole_text}
-use borrow.Author.Rules.{rules}
 use Rattle.writer.proofs.write_text.Goals as goal
 
 pub counts_of-counts-requires : goal.counts_of-counts-requires

@@ -1,13 +1,11 @@
 -- `write_typed` meets its contract: nothing where the word is 0, else its two parts, one behind the other.
 use native.Mathlib.Omega.{arith}
 use Rattle.lists.specs.Sets.{then}
-use mathlib.Core.Path.{refl}
 use borrow.Author.Tests.{eq-eqb, ne_eqb}
 use Rattle.paper.specs.Report.{behind_tabs}
 use Rattle.paper.specs.Writing.{letter_of, texts_of, record_text}
 use Rattle.writer.specs.Form.{typed_text}
 use Rattle.writer.proofs.LawsLeft.{wrote_nothing}
-use borrow.Author.Rules.{rules}
 use Rattle.writer.proofs.write_typed.Goals as goal
 
 pub returns-then-word-eq0 : goal.returns-then-word-eq0

@@ -23,23 +23,24 @@ use Rattle.paper.specs.declared.Rule.TheVariants.{Old, House}
 use Rattle.walks.specs.Order.{Served, in_order}
 use Rattle.walks.specs.Bounds.{Closed, cells_counted}
 use Rattle.walks.specs.Honest.{Typed}
-use Rattle.walks.specs.Loop.{Standing}
-use Rattle.walks.specs.Faults.{Explained}
-use Rattle.walks.specs.Unreached.{Unwalked}
+use Rattle.walks.proofs.Loop.{Standing}
+use Rattle.walks.proofs.Faults.{Explained}
+use Rattle.walks.proofs.Unreached.{Unwalked}
 use Rattle.walks.specs.Former.{former_answer}
 use Rattle.walks.specs.Meet
 use Rattle.walks.specs.Effects
 use Rattle.walks.specs.Flow
 use Rattle.walks.specs.Fits
-use Rattle.walks.specs.Loop
-use Rattle.walks.specs.Ended
-use Rattle.walks.specs.House as Ends
+use Rattle.walks.proofs.Loop
+use Rattle.walks.proofs.Ended
+use Rattle.walks.proofs.House as Ends
 use Rattle.walks.specs.Honest
-use Rattle.walks.specs.Acceptance as Accepting
-use Rattle.walks.specs.Faults
-use Rattle.walks.specs.Unreached
+use Rattle.walks.proofs.Acceptance as Accepting
+use Rattle.walks.proofs.Faults
+use Rattle.walks.proofs.Unreached
 use Rattle.walks.specs.Former
 use Rattle.walks.specs.OldRule
+use Rattle.walks.proofs.OldRule as Orders
 use Rattle.walks.specs.Reading
 use Rattle.walks.specs.Small.{SmallReport}
 use Rattle.walks.specs.Written
@@ -87,7 +88,7 @@ old_does_not_distribute = OldRule.old_does_not_distribute
 
 pub old_order_shows : ¬ ((S : Sheet) → Closed S → (order : List ℕ) → (in_order (flow Old S) order (begin Old S)).queue ≡ []
     → (b : ℕ) → (in_order (flow Old S) order (begin Old S)).table b ≡ (analysis Old S).table b)
-old_order_shows = OldRule.old_order_shows
+old_order_shows = Orders.old_order_shows
 
 -- 2. "The visit bounds are of the defined run: its queue is empty after at most that many visits."
 pub house_run_ends : (S : Sheet) → Closed S → (run (flow House S) (S.blocks * (1 + 3 * (S.regs + S.slots))) (begin House S)).queue ≡ []

@@ -13,7 +13,7 @@ use Rattle.paper.specs.Walks.{In, here, there, HouseWalk}
 use Rattle.paper.specs.declared.Rule.TheVariants.{House}
 use Rattle.walks.specs.Choices.{in_nil}
 use Rattle.walks.specs.Bounds.{Closed}
-use Rattle.walks.specs.House.{house_reached, house_unreached}
+use Rattle.walks.proofs.House.{house_reached, house_unreached}
 use Rattle.walks.specs.Entries.{no_fault_entry, reached_entries, unreached_entries, in_block, block_in}
 
 -- a block of a sheet that misses no allocation, and no walk comes to it

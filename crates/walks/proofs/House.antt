@@ -12,7 +12,7 @@ use Rattle.walks.specs.Flow.{Good, start_good, is_meet, reached, unreached}
 use Rattle.walks.specs.Order.{Served, served_good, in_order, in_order_good, run_good, same_end}
 use Rattle.walks.specs.Effects.{house_laws}
 use Rattle.walks.specs.Bounds.{Closed}
-use Rattle.walks.specs.Loop.{analysis_ends}
+use Rattle.walks.proofs.Loop.{analysis_ends}
 
 module _ (S : Sheet) where
   begin_good : Good (flow House S) (begin House S)

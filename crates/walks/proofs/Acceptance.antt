@@ -17,7 +17,7 @@ use Rattle.paper.specs.declared.Rule.TheVariants.{House}
 use Rattle.walks.specs.Choices.{some_inj, in_append, in_nil}
 use Rattle.walks.specs.Flow.{Meets, one, two}
 use Rattle.walks.specs.Bounds.{Closed}
-use Rattle.walks.specs.House.{house_good, house_meet_over_walks, house_unreached}
+use Rattle.walks.proofs.House.{house_good, house_meet_over_walks, house_unreached}
 use Rattle.walks.specs.Holding.{absent_named, unknown_named}
 use Rattle.walks.specs.Fits.{shape}
 use Rattle.walks.specs.Honest.{Typed, SameType, walk_proper, meets_proper}

@@ -11,7 +11,7 @@ use Rattle.paper.specs.Sheet.{Sheet}
 use Rattle.paper.specs.Runs.{flow, begin, run, visit_bound, analysis, EndsAfter}
 use Rattle.paper.specs.declared.Rule.{Rule}
 use Rattle.walks.specs.Bounds.{Closed}
-use Rattle.walks.specs.Loop.{analysis_ends}
+use Rattle.walks.proofs.Loop.{analysis_ends}
 
 module _ (rule : Rule) (S : Sheet) where
   -- the blocks that wait after k visits

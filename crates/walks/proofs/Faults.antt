@@ -22,9 +22,9 @@ use Rattle.walks.specs.Checks.{slots_marked}
 use Rattle.walks.specs.Above.{meet_left, meet_right}
 use Rattle.walks.specs.Witness.{MeetOf, single, joined, Witness, one_fails, two_differ, witness, meet_of_effect}
 use Rattle.walks.specs.Bounds.{Closed}
-use Rattle.walks.specs.House.{house_good}
+use Rattle.walks.proofs.House.{house_good}
 use Rattle.walks.specs.Entries.{reached_faults, unreached_faults, in_faults, in_block}
-use Rattle.walks.specs.Acceptance.{meets_of}
+use Rattle.walks.proofs.Acceptance.{meets_of}
 
 -- a listed slot that holds an unmarked name
 record Unmarked (slots : List ℕ) (s : State) : Type 0 where

@@ -10,7 +10,7 @@ use Rattle.walks.specs.Choices.{in_nil}
 use Rattle.walks.specs.Bounds.{Closed}
 use Rattle.walks.specs.Honest.{Typed}
 use Rattle.walks.specs.Computed.{computed, defines, uses}
-use Rattle.walks.specs.Theorems.{accepted_reads_equal}
+use Rattle.walks.proofs.Theorems.{accepted_reads_equal}
 
 abbrev pub again : Sheet
 again = record {

@@ -15,7 +15,8 @@ use Rattle.paper.specs.declared.Rule.{Rule}
 use Rattle.walks.specs.Running.{run_add, run_still}
 use Rattle.walks.specs.Visits.{VisitsWithin, within_queue, within_visit, within_step, within_run, within_ends}
 use Rattle.walks.specs.Fits.{Any, fits_lengths, fits_unreached}
-use Rattle.walks.specs.Bounds.{Closed, ranked, within_begin, within_lengths}
+use Rattle.walks.specs.Bounds.{Closed}
+use Rattle.walks.proofs.Bounds.{ranked, within_begin, within_lengths}
 
 module _ (rule : Rule) (S : Sheet) (C : Closed S) where
   pub record Standing (k : ℕ) (r : Run State) : Type 0 where
