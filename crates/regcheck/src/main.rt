@@ -2,19 +2,27 @@
 
 #![tactic(auto)]
 
-ghost use Rattle.std.specs.Prelude.{◌≡◌, None, ◌≤◌, ◌<◌, length, take};
+ghost use Rattle.std.specs.Prelude.{◌≡◌, None, OnOk, ◌≤◌, ◌<◌, length, take};
 ghost use Rattle.std.specs.Io.KnownBytes.{Consumes, IsAtEnd};
+ghost use Rattle.regcheck.specs.Program.{AnswersInput};
 
 use layout::{QUEUE_SIZE, REPORT_SIZE, WORDS_SIZE};
 use paper::Rule;
 use std::io;
-use std::io::Read;
+use std::io::{Read, Write};
 
 // How much was read, and why a read failed, where one did.
 #[derive(Clone, Copy)]
 struct Input {
     pub count: usize,
     pub failure: Option<io::Error>,
+}
+
+// Why the sheet could not be read, or its answer not be written.
+#[derive(Clone, Copy)]
+enum Failure {
+    Input(io::Error),
+    Output(io::Error),
 }
 
 // Reads until the room is full or the input ends.
@@ -47,18 +55,20 @@ fn read_sheet<R: Read>(input: &mut R, room: &mut [u8]) -> Input
     }
 }
 
-fn main(rt: HostRuntime) {
+// Writes what is said of the sheet that the input is.
+fn answer<R: Read, W: Write>(input: &mut R, output: &mut W) -> Result<(), Failure>
+    ensures { OnOk result (AnswersInput (R.remaining input.old) (W.contents output.old) (W.contents output.new)) }
+{
     // One byte more than the longest sheet, so that a longer one is seen to be too long.
     let mut sheet = [0u8; 65537];
     let mut report = [0u8; REPORT_SIZE];
     let mut words = [0u16; WORDS_SIZE];
     let mut queue = [0u8; QUEUE_SIZE];
-    let input = read_sheet(&mut rt.stdin(), &mut sheet);
-    if let Some(error) = input.failure {
-        let _ = eprintln!(rt; "regcheck: standard input: {error}");
-        return;
+    let read = read_sheet(input, &mut sheet);
+    if let Some(error) = read.failure {
+        return Err(Failure::Input(error));
     }
-    let end = input.count;
+    let end = read.count;
     let length = checker::answer_text(
         Rule::House,
         &sheet[..end],
@@ -66,7 +76,17 @@ fn main(rt: HostRuntime) {
         &mut words,
         &mut queue,
     );
-    if let Err(error) = rt.write_all(&report[..length]) {
-        let _ = eprintln!(rt; "regcheck: standard output: {error}");
+    output.write_all(&report[..length]).map_err(Failure::Output)
+}
+
+fn main(rt: HostRuntime) {
+    match answer(&mut rt.stdin(), &mut rt.stdout()) {
+        Ok(()) => {}
+        Err(Failure::Input(error)) => {
+            let _ = eprintln!(rt; "regcheck: standard input: {error}");
+        }
+        Err(Failure::Output(error)) => {
+            let _ = eprintln!(rt; "regcheck: standard output: {error}");
+        }
     }
 }
