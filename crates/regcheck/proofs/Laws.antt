@@ -1,5 +1,5 @@
 -- What the room holds is the sheet, and what stands at the start of the report is what is said of it.
-use Rattle.std.proofs.Common.{◌≡◌, List, [], refl, sym, ap, ◌∙◌, subst, ◌++◌, append-nil, ℕ, ◌≤◌, ◌<◌, Bool, true, false, arith, length, take, drop, take_all, Result, Ok, Err, OnOk, None, Some, IfSome, inl, inr}
+use Rattle.std.proofs.Common.{◌≡◌, List, [], refl, sym, ap, ◌∙◌, subst, ◌++◌, append-nil, ℕ, ◌≤◌, ◌<◌, true, false, arith, length, take, drop, take_all, Result, Ok, Err, OnOk, None, Some, IfSome, inl, inr}
 use Rattle.std.specs.Prelude.{Option, is_ok}
 use Rattle.std.specs.Io.KnownBytes.{Consumes, IsAtEnd}
 use lib.Seq.{take-append_seam}
