@@ -119,7 +119,6 @@ def rooms(jobs, kind):
     """Gives a function that runs a job on each item of a list, each in a free room, and yields items and results in order. The crates
     that a job changes are proved as they stand. The rooms stand among the temporary files, one set for each checkout."""
     place = os.path.join(tempfile.gettempdir(), f'{kind}-{os.getuid()}-{hashlib.sha256(ROOT.encode()).hexdigest()[:12]}')
-    os.makedirs(place, 0o700, exist_ok=True)
     free = Queue()
 
     def inside(job):
@@ -130,11 +129,12 @@ def rooms(jobs, kind):
             finally:
                 free.put(room)
         return one
-    with open(os.path.join(place, 'lock'), 'w') as lock:
+    with open(place + '.lock', 'w') as lock:
         fcntl.flock(lock, fcntl.LOCK_EX)
         try:
+            shutil.rmtree(place, ignore_errors=True)
+            os.makedirs(place, 0o700)
             for n in range(jobs):
-                shutil.rmtree(os.path.join(place, str(n)), ignore_errors=True)
                 free.put(Room(os.path.join(place, str(n))))
             with ThreadPoolExecutor(jobs) as pool:
                 yield lambda job, items: zip(items, pool.map(inside(job), items))
