@@ -1,3 +1,3 @@
-// The theorems on the definitions of `paper`: specs/Theorems.antt states them together. No function stands here.
+// The theorems on the definitions of `paper`: proofs/Theorems.antt states them together. No function stands here.
 
 #![tactic(auto)]
