@@ -8,7 +8,7 @@
 extern crate self as log;
 extern crate self as rustc_hash;
 
-#[path = "../../target/oracle/regalloc/src/checker.rs"]
+#[path = "../../target/oracle/checker.rs"]
 mod checker;
 #[path = "../../oracle/src/columns.rs"]
 mod columns;

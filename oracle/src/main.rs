@@ -24,8 +24,8 @@ mod shrink;
 mod stand_ins;
 mod store;
 
-// The build script links this path to the Rust crate, which stays where it is.
-#[path = "../../target/oracle/regalloc/src/checker.rs"]
+// The build script writes this file, which names that of the Rust crate, where it lies.
+#[path = "../../target/oracle/checker.rs"]
 mod checker;
 
 #[allow(unused_imports)]
