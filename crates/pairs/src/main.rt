@@ -115,6 +115,11 @@ fn compare_all<R: Read, W: Write>(input: &mut R, output: &mut W) -> io::Result<(
 
 fn main(rt: HostRuntime) {
     if let Err(error) = compare_all(&mut rt.stdin(), &mut rt.stdout()) {
-        let _ = eprintln!(rt; "pairs: {error}");
+        let place = if matches!(error.kind(), ErrorKind::InvalidData) {
+            ""
+        } else {
+            "standard output: "
+        };
+        let _ = eprintln!(rt; "pairs: {place}{error}");
     }
 }

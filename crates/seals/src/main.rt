@@ -49,6 +49,11 @@ fn verify_all<R: Read, W: Write>(input: &mut R, output: &mut W) -> io::Result<()
 
 fn main(rt: HostRuntime) {
     if let Err(error) = verify_all(&mut rt.stdin(), &mut rt.stdout()) {
-        let _ = eprintln!(rt; "seals: {error}");
+        let place = if matches!(error.kind(), ErrorKind::InvalidData) {
+            ""
+        } else {
+            "standard output: "
+        };
+        let _ = eprintln!(rt; "seals: {place}{error}");
     }
 }

@@ -131,6 +131,11 @@ fn answer_all<R: Read, W: Write>(input: &mut R, output: &mut W) -> io::Result<()
 
 fn main(rt: HostRuntime) {
     if let Err(error) = answer_all(&mut rt.stdin(), &mut rt.stdout()) {
-        let _ = eprintln!(rt; "stream: {error}");
+        let place = if matches!(error.kind(), ErrorKind::InvalidData) {
+            ""
+        } else {
+            "standard output: "
+        };
+        let _ = eprintln!(rt; "stream: {place}{error}");
     }
 }

@@ -76,6 +76,11 @@ fn write_all<R: Read, W: Write>(input: &mut R, output: &mut W) -> io::Result<()>
 
 fn main(rt: HostRuntime) {
     if let Err(error) = write_all(&mut rt.stdin(), &mut rt.stdout()) {
-        let _ = eprintln!(rt; "writes: {error}");
+        let place = if matches!(error.kind(), ErrorKind::InvalidData) {
+            ""
+        } else {
+            "standard output: "
+        };
+        let _ = eprintln!(rt; "writes: {place}{error}");
     }
 }
