@@ -150,10 +150,15 @@ SHAPE = re.compile(r"can be named from here|is not in scope|has no field|has no 
 UNREAD = re.compile(r"is not in scope|has no field|is no name|operand is missing|expected the end|cannot continue")
 
 
+def lines_of(said):
+    """The lines of what a check said, an error whose second line tells what its record or module lacks in one."""
+    return re.sub(r'\n +(?=has no )', ' ', said).splitlines()
+
+
 def errors(said):
     """What a check found wrong: the file, the function it is of, if that is told, and the words."""
     found, notes = [], []
-    for line in said.splitlines():
+    for line in lines_of(said):
         at = re.match(r'(?:\./)?((?:src|specs|proofs)/[^\s:]+)(?::\d+:\d+)?: error(?:\[[\w-]+\])?: (.*)', line)
         if at:
             of = re.match(r'proofs/([^/]+)/', at[1])
@@ -181,7 +186,7 @@ def facts_and_shapes(said, function=None):
 
 def unread(said, changed):
     """The first line by which the compiler or antt could not read a text of src/, of specs/ or of a changed file."""
-    for line in said.splitlines():
+    for line in lines_of(said):
         if re.match(r'\S+: error\[[\w-]+\]: ', line):
             return line
         at = re.match(r'(?:\./)?(\S+?):\d+:\d+: error: (?:(`[^`]*`): )?(.*)', line)
