@@ -81,6 +81,13 @@ pub enum List {
     Readings,
 }
 
+// What the checker is lent for its own use.
+#[derive(Drop)]
+struct Scratch {
+    words: [u16; WORDS_SIZE],
+    queue: [u8; QUEUE_SIZE],
+}
+
 // Is the next frame the text?
 fn next_is<R: Read>(input: &mut R, text: &[u8], stored: &mut [u8]) -> bool {
     let frame = frames::read(input, stored);
@@ -98,12 +105,25 @@ fn same_part<R: Read>(
     sheet: &[u8],
     stored: &mut [u8],
     text: &mut [u8],
-    words: &mut [u16; WORDS_SIZE],
-    queue: &mut [u8; QUEUE_SIZE],
+    scratch: &mut Scratch,
 ) -> bool {
-    let old = states::text_of(part, Rule::Old, sheet, text, words, queue);
+    let old = states::text_of(
+        part,
+        Rule::Old,
+        sheet,
+        text,
+        &mut scratch.words,
+        &mut scratch.queue,
+    );
     let first = next_is(input, &text[..old], stored);
-    let house = states::text_of(part, Rule::House, sheet, text, words, queue);
+    let house = states::text_of(
+        part,
+        Rule::House,
+        sheet,
+        text,
+        &mut scratch.words,
+        &mut scratch.queue,
+    );
     let second = next_is(input, &text[..house], stored);
     first & second
 }
@@ -125,10 +145,16 @@ fn same_reading<R: Read>(
     sheet: &[u8],
     stored: &mut [u8],
     text: &mut [u8],
-    words: &mut [u16; WORDS_SIZE],
-    queue: &mut [u8; QUEUE_SIZE],
+    scratch: &mut Scratch,
 ) -> bool {
-    let said = states::text_of(Part::Answer, Rule::House, sheet, text, words, queue);
+    let said = states::text_of(
+        Part::Answer,
+        Rule::House,
+        sheet,
+        text,
+        &mut scratch.words,
+        &mut scratch.queue,
+    );
     agrees(input, &text[..said], stored)
 }
 
@@ -139,16 +165,15 @@ fn same<R: Read>(
     sheet: &[u8],
     stored: &mut [u8],
     text: &mut [u8],
-    words: &mut [u16; WORDS_SIZE],
-    queue: &mut [u8; QUEUE_SIZE],
+    scratch: &mut Scratch,
 ) -> bool {
     match list {
         List::Answers => {
-            let answers = same_part(input, Part::Answer, sheet, stored, text, words, queue);
-            let states = same_part(input, Part::States, sheet, stored, text, words, queue);
+            let answers = same_part(input, Part::Answer, sheet, stored, text, scratch);
+            let states = same_part(input, Part::States, sheet, stored, text, scratch);
             answers & states
         }
-        List::Readings => same_reading(input, sheet, stored, text, words, queue),
+        List::Readings => same_reading(input, sheet, stored, text, scratch),
     }
 }
 
@@ -159,14 +184,13 @@ fn one<R: Read>(
     sheet: &mut [u8],
     stored: &mut [u8],
     text: &mut [u8],
-    words: &mut [u16; WORDS_SIZE],
-    queue: &mut [u8; QUEUE_SIZE],
+    scratch: &mut Scratch,
 ) -> Outcome {
     let frame = frames::read(input, sheet);
     let Frame::Read(length) = frame else {
         return Outcome::End;
     };
-    if same(input, list, &sheet[..length], stored, text, words, queue) {
+    if same(input, list, &sheet[..length], stored, text, scratch) {
         Outcome::Same
     } else {
         Outcome::Different
@@ -178,8 +202,10 @@ pub fn run<R: Read, W: Write>(input: &mut R, output: &mut W, list: List) -> io::
     let mut sheet = [0u8; 70000];
     let mut stored = [0u8; 70000];
     let mut text = [0u8; STATES_SIZE];
-    let mut words = [0u16; WORDS_SIZE];
-    let mut queue = [0u8; QUEUE_SIZE];
+    let mut scratch = Scratch {
+        words: [0u16; WORDS_SIZE],
+        queue: [0u8; QUEUE_SIZE],
+    };
     let mut tally = Tally {
         same: 0,
         different: 0,
@@ -193,8 +219,7 @@ pub fn run<R: Read, W: Write>(input: &mut R, output: &mut W, list: List) -> io::
             &mut sheet,
             &mut stored,
             &mut text,
-            &mut words,
-            &mut queue,
+            &mut scratch,
         );
         tally = counted(tally, outcome);
         turns -= 1;
