@@ -3,6 +3,7 @@ use mathlib.Core.Path.{◌≡◌, refl, sym, ◌∙◌}
 use mathlib.Core.Bool.{true, false, and-false}
 use mathlib.Core.List.{[], ◌∷◌, ◌++◌, append-nil, append_assoc}
 use mathlib.Core.Option.{none}
+use Rattle.std.specs.Prelude.{Some, None}
 use Prim.Native.Nat.{ℕ, suc, ◌+◌, ◌-◌, ◌*◌, ◌/◌, ◌%◌, ◌≤◌, ◌<◌}
 use native.Mathlib.Omega.{arith}
 use borrow.Author.Tests.{lt-ltb, le-leb, lt-leb}
@@ -12,7 +13,6 @@ use Rattle.paper.specs.Text.{Bytes, is_digit, all_digits, leading_zero, is_numbe
 use Rattle.fields.specs.Fields.{ends_field, field_at, field_end, number_told, number_at, Within}
 use Rattle.fields.specs.Spelling.{digit_range, number_of_digits}
 use Rattle.fields.specs.Cursor.{field_past, field_stop, field_more}
-use Rattle.fields.specs.declared.Number.TheVariants as number
 use Rattle.fields.proofs.Letters.{letter_inner}
 
 -- a number's digits: one alone, one more behind them, and where there are five
@@ -84,19 +84,19 @@ module _ (b : ℕ) (bs : Bytes) where
   none_many v m = rw (length-append, lt-leb (length (digits v) + suc (length bs)) 5 (omega (arith, digits_five v m)), and-false)
 
 module _ (s : Bytes) (at : ℕ) where
-  bad : {f : Bytes} → field_at s at ≡ f → number_of f ≡ none → number.Bad ≡ number_at s at
+  bad : {f : Bytes} → field_at s at ≡ f → number_of f ≡ none → None ≡ number_at s at
   unfolding number_at number_told
   bad e n = rw (e, n)
 
-  bad_empty : field_at s at ≡ [] → number.Bad ≡ number_at s at
+  bad_empty : field_at s at ≡ [] → None ≡ number_at s at
   unfolding number_of is_number
   bad_empty e = bad e refl
 
   -- the text or the field ends here, or begins with no digit
-  pub bad_past : length s ≤ at → number.Bad ≡ number_at s at
+  pub bad_past : length s ≤ at → None ≡ number_at s at
   bad_past h = bad_empty (field_past s at h)
 
-  pub bad_first : at < length s → is_digit (get_or s at 0) ≡ false → number.Bad ≡ number_at s at
+  pub bad_first : at < length s → is_digit (get_or s at 0) ≡ false → None ≡ number_at s at
   bad_first h g =
       by_test (ends_field (get_or s at 0))
       (λ e. bad_empty (field_stop s at h e))
@@ -126,14 +126,14 @@ module _ {s : Bytes} {at v i : ℕ} (l : Led s at v i) where
     goes : ends_field (get_or s i 0) ≡ false → field_at s at ≡ digits v ++ get_or s i 0 ∷ field_at s (i + 1)
     goes f = l.whole ∙ rw (field_more s i h f)
 
-    pub led_other : ends_field (get_or s i 0) ≡ false → is_digit (get_or s i 0) ≡ false → number.Bad ≡ number_at s at
+    pub led_other : ends_field (get_or s i 0) ≡ false → is_digit (get_or s i 0) ≡ false → None ≡ number_at s at
     led_other f g = bad s at (goes f) (none_digit _ _ (digits v) g)
 
     module _ (g : is_digit (get_or s i 0) ≡ true) where
-      pub led_zero : v ≡ 0 → number.Bad ≡ number_at s at
+      pub led_zero : v ≡ 0 → None ≡ number_at s at
       led_zero z = bad s at (goes (digit_inner _ g)) (rw z (none_zero _ _))
 
-      pub led_many : 9999 < v → number.Bad ≡ number_at s at
+      pub led_many : 9999 < v → None ≡ number_at s at
       led_many m = bad s at (goes (digit_inner _ g)) (none_many _ _ v m)
 
       pub led_more : (v ≡ 0 → ⊥) → v ≤ 9999 → Led s at (v * 10 + (get_or s i 0 - 48)) (i + 1)
@@ -147,7 +147,7 @@ module _ {s : Bytes} {at v i : ℕ} (l : Led s at v i) where
           }
 
   -- the field ends here
-  pub led_good : field_at s i ≡ [] → number.Value v i ≡ number_at s at
+  pub led_good : field_at s i ≡ [] → Some (v, i) ≡ number_at s at
   unfolding number_at number_told field_end
   led_good e =
       let whole : field_at s at ≡ digits v = l.whole ∙ rw (e, append-nil) in

@@ -1,6 +1,7 @@
 -- What the answer of a reader tells of the field at its place, and of the line's next field; and that what was written at a
 -- place is read there.
-use Rattle.std.specs.Prelude.{◌≡◌, Bool, true, false, not, ◌&&◌, [], ◌∷◌, ◌++◌, ℕ, ◌+◌, ◌≤◌, ◌<◌, length, drop, take}
+use Rattle.std.specs.Prelude as read
+use Rattle.std.specs.Prelude.{Some, None, ◌≡◌, Bool, true, false, not, ◌&&◌, [], ◌∷◌, ◌++◌, ℕ, ◌+◌, ◌≤◌, ◌<◌, length, drop, take}
 use Rattle.std.proofs.Math.Path.{refl}
 use Rattle.std.proofs.Common.{ap, append-nil, append_assoc, arith, ne_eqb, drop_at, length-take-le}
 use Rattle.std.proofs.Math.Option.{Option, none, some}
@@ -10,15 +11,10 @@ use Rattle.lists.specs.Sets.{Wrote}
 use Rattle.lists.specs.Split.{and_left, and_right}
 use Rattle.paper.specs.Text.{Bytes, fields, is_digit, all_digits, number_of, digits, Name, real, virtual, name_of, name_text}
 use Rattle.paper.specs.Refusals.{next, allocation_of}
-use Rattle.fields.specs.Fields.{until, ends_field, line_at, field_at, field_end, fields_behind, number_told, name_told, allocation_told, number_at, name_at, allocation_at, name_made, allocation_made}
+use Rattle.fields.specs.Fields.{until, ends_field, line_at, field_at, field_end, fields_behind, number_told, name_told, allocation_told, number_at, name_at, allocation_at, name_read, name_made, named, allocated}
 use Rattle.fields.specs.Cursor.{fields_at}
 use Rattle.fields.specs.Spelling.{number, digit_range, number_of_digits, name_of_text}
-use Rattle.fields.specs.declared.Number as Number_read
-use Rattle.fields.specs.declared.Number.TheVariants as number_read
 use Rattle.fields.specs.declared.Name as Name_read
-use Rattle.fields.specs.declared.Name.TheVariants as name_read
-use Rattle.fields.specs.declared.Allocation as Allocation_read
-use Rattle.fields.specs.declared.Allocation.TheVariants as allocation_read
 
 -- the field at `at` says a, as f reads it, and ends at i
 pub record Says {A : Type 0} (f : Bytes → Option A) (s : Bytes) (at : ℕ) (a : A) (i : ℕ) : Type 0 where
@@ -40,17 +36,17 @@ unfolding next
 next_refused {A} {f} {s} {at} w = rw (fields_at s at, w.said)
 
 -- what each answer tells
-abbrev NumberTells : Bytes → ℕ → Number_read.Number → Type 0
-NumberTells s at number_read.Bad = Refuses number_of s at
-NumberTells s at (number_read.Value v i) = Says number_of s at v i
+abbrev NumberTells : Bytes → ℕ → read.Option (ℕ × ℕ) → Type 0
+NumberTells s at None = Refuses number_of s at
+NumberTells s at (Some x) = Says number_of s at x.0 x.1
 
-abbrev NameTells : Bytes → ℕ → Name_read.Name → Type 0
-NameTells s at name_read.Bad = Refuses name_of s at
-NameTells s at (name_read.Value is_real n i) = Says name_of s at (name_made is_real n) i
+abbrev NameTells : Bytes → ℕ → read.Option (Name_read.Name × ℕ) → Type 0
+NameTells s at None = Refuses name_of s at
+NameTells s at (Some x) = Says name_of s at (named x.0) x.1
 
-abbrev AllocationTells : Bytes → ℕ → Allocation_read.Allocation → Type 0
-AllocationTells s at allocation_read.Bad = Refuses allocation_of s at
-AllocationTells s at (allocation_read.Value given r i) = Says allocation_of s at (allocation_made given r) i
+abbrev AllocationTells : Bytes → ℕ → read.Option (read.Option ℕ × ℕ) → Type 0
+AllocationTells s at None = Refuses allocation_of s at
+AllocationTells s at (Some x) = Says allocation_of s at (allocated x.0) x.1
 
 module _ (s : Bytes) (at : ℕ) where
   number_tells : NumberTells s at (number_at s at)
@@ -62,7 +58,7 @@ module _ (s : Bytes) (at : ℕ) where
       go (some v) p = record { said = p; place = refl }
 
   name_tells : NameTells s at (name_at s at)
-  unfolding name_at name_told name_made
+  unfolding name_at name_told name_read named
   name_tells = go (name_of (field_at s at)) refl
     where
       go : (o : Option Name) → name_of (field_at s at) ≡ o → NameTells s at (name_told (field_end s at) o)
@@ -71,7 +67,7 @@ module _ (s : Bytes) (at : ℕ) where
       go (some (virtual n)) p = record { said = p; place = refl }
 
   allocation_tells : AllocationTells s at (allocation_at s at)
-  unfolding allocation_at allocation_told allocation_made
+  unfolding allocation_at allocation_told allocated
   allocation_tells = go (allocation_of (field_at s at)) refl
     where
       go : (o : Option (Option ℕ)) → allocation_of (field_at s at) ≡ o → AllocationTells s at (allocation_told (field_end s at) o)
@@ -80,22 +76,22 @@ module _ (s : Bytes) (at : ℕ) where
       go (some (some r)) p = record { said = p; place = refl }
 
 module _ {s : Bytes} {at : ℕ} where
-  pub number_says : {v i : ℕ} → number_at s at ≡ number_read.Value v i → Says number_of s at v i
+  pub number_says : {v i : ℕ} → number_at s at ≡ Some (v, i) → Says number_of s at v i
   number_says e = rw e at (number_tells s at)
 
-  pub number_refused : number_at s at ≡ number_read.Bad → Refuses number_of s at
+  pub number_refused : number_at s at ≡ None → Refuses number_of s at
   number_refused e = rw e at (number_tells s at)
 
-  pub name_says : {is_real : Bool} {n i : ℕ} → name_at s at ≡ name_read.Value is_real n i → Says name_of s at (name_made is_real n) i
+  pub name_says : {n : Name_read.Name} {i : ℕ} → name_at s at ≡ Some (n, i) → Says name_of s at (named n) i
   name_says e = rw e at (name_tells s at)
 
-  pub name_refused : name_at s at ≡ name_read.Bad → Refuses name_of s at
+  pub name_refused : name_at s at ≡ None → Refuses name_of s at
   name_refused e = rw e at (name_tells s at)
 
-  pub allocation_says : {given : Bool} {r i : ℕ} → allocation_at s at ≡ allocation_read.Value given r i → Says allocation_of s at (allocation_made given r) i
+  pub allocation_says : {r : read.Option ℕ} {i : ℕ} → allocation_at s at ≡ Some (r, i) → Says allocation_of s at (allocated r) i
   allocation_says e = rw e at (allocation_tells s at)
 
-  pub allocation_refused : allocation_at s at ≡ allocation_read.Bad → Refuses allocation_of s at
+  pub allocation_refused : allocation_at s at ≡ None → Refuses allocation_of s at
   allocation_refused e = rw e at (allocation_tells s at)
 
 -- reading what was written
@@ -133,20 +129,15 @@ unfolding unbroken name_text name_made ends_field
 unbroken_name true n h = unbroken_number n h
 unbroken_name false n h = unbroken_number n h
 
-name_told_made : (is_real : Bool) (n i : ℕ) → name_told i (some (name_made is_real n)) ≡ name_read.Value is_real n i
-unfolding name_told name_made
-name_told_made true n i = refl
-name_told_made false n i = refl
-
 module _ {l l' : Bytes} {at i : ℕ} (h : i ≤ length l) (e : field_at l i ≡ []) where
-  pub number_written : {v : ℕ} → Wrote l at (digits v) l' i → v < 100000 → number_at l' at ≡ number_read.Value v i
+  pub number_written : {v : ℕ} → Wrote l at (digits v) l' i → v < 100000 → number_at l' at ≡ Some (v, i)
   unfolding number_at number_told field_end
   number_written {v} w small =
       let f : field_at l' at ≡ digits v = field_written w h (unbroken_number v small) e in
       rw (f, number_of_digits v small, w.next)
 
-  pub name_written : {is_real : Bool} {n : ℕ} → Wrote l at (name_text (name_made is_real n)) l' i → n < 100000 → name_at l' at ≡ name_read.Value is_real n i
-  unfolding name_at field_end
-  name_written {is_real} {n} w small =
+  pub name_written : (is_real : Bool) {n : ℕ} → Wrote l at (name_text (name_made is_real n)) l' i → n < 100000 → name_at l' at ≡ Some (name_read (name_made is_real n), i)
+  unfolding name_at name_told field_end
+  name_written is_real {n} w small =
       let f : field_at l' at ≡ name_text (name_made is_real n) = field_written w h (unbroken_name is_real n small) e in
-      rw (f, name_of_text is_real n small, ← w.next) (name_told_made is_real n i)
+      rw (f, name_of_text is_real n small, ← w.next)

@@ -5,35 +5,20 @@
 ghost use Rattle.std.specs.Prelude.{◌≡◌, [], ◌∷◌, ◌+◌, ◌≤◌, ◌<◌, length};
 ghost use Rattle.lists.specs.Sets.{Wrote};
 ghost use Rattle.paper.specs.Text.{is_digit, digit_from, digits, name_text};
-ghost use Rattle.fields.specs.Fields.{ends_field, number_at, name_at, allocation_at, end_at, NumberWithin, NameWithin, AllocationWithin, EndWithin, name_made};
+ghost use Rattle.fields.specs.Fields.{ends_field, number_at, name_at, allocation_at, end_at, NumberWithin, NameWithin, AllocationWithin, EndWithin, named};
 
-// A number, and the place behind its field.
-#[derive(Clone, Copy)]
-pub enum Number {
-    Value(u32, usize),
-    Bad,
-}
-
-// A name: is it real, its number, and the place behind its field.
-#[derive(Clone, Copy)]
+// A name, real or virtual, by its number.
+#[derive(Clone, Copy, PartialEq, Eq)]
 pub enum Name {
-    Value(bool, u32, usize),
-    Bad,
+    Real(u32),
+    Virtual(u32),
 }
 
-// An allocation: is there one, its register's number, and the place behind its field.
-#[derive(Clone, Copy)]
-pub enum Allocation {
-    Value(bool, u32, usize),
-    Bad,
-}
-
-// What stands at a place: a tab, behind which another field follows; a line feed, behind which the next line stands; or neither.
-#[derive(Clone, Copy)]
+// What ends a field: a tab, behind which another field follows, or a line feed, behind which the next line stands.
+#[derive(Clone, Copy, PartialEq, Eq)]
 pub enum End {
     Tab,
     LineFeed,
-    Neither,
 }
 
 // The digit 0 in 32 bits, where a digit's value is taken: a difference of eight bits would have to be cut to them first.
@@ -42,7 +27,7 @@ const ZERO: u32 = 48;
 fn is_digit(b: u8) -> bool
     ensures { result ≡ is_digit b }
 {
-    (48 <= b) & (b <= 57)
+    b.is_ascii_digit()
 }
 
 fn ends_field(b: u8) -> bool
@@ -52,93 +37,81 @@ fn ends_field(b: u8) -> bool
 }
 
 // What ends a field at `at`, or that nothing does.
-pub fn ends(s: &[u8], at: usize) -> End
+#[tactic(auto, unfolding(crate::specs::Fields::end_at))]
+pub fn ends(s: &[u8], at: usize) -> Option<End>
     ensures value { result ≡ end_at s.now at }
     ensures within { EndWithin s.now at result }
 {
-    if s.len() <= at {
-        return End::Neither;
-    }
-    match s[at] {
-        b'\t' => End::Tab,
-        b'\n' => End::LineFeed,
-        _ => End::Neither,
+    match s.get(at) {
+        Some(b'\t') => Some(End::Tab),
+        Some(b'\n') => Some(End::LineFeed),
+        _ => None,
     }
 }
 
-// The number that the field at `at` says.
-pub fn read_number(s: &[u8], at: usize) -> Number
+// The number that the field at `at` says, and the place behind it.
+pub fn read_number(s: &[u8], at: usize) -> Option<(u32, usize)>
     ensures value { result ≡ number_at s.now at }
     ensures within { NumberWithin s.now at result }
 {
-    if s.len() <= at {
-        return Number::Bad;
-    }
-    let first = s[at];
+    let first = *s.get(at)?;
     if !is_digit(first) {
-        return Number::Bad;
+        return None;
     }
     let mut v = first as u32 - ZERO;
-    let mut i = at + 1;
-    while i < s.len() {
+    for i in at + 1..s.len() {
         let b = s[i];
+        if ends_field(b) {
+            return Some((v, i));
+        }
         if !is_digit(b) {
-            if ends_field(b) {
-                break;
-            }
-            return Number::Bad;
+            return None;
         }
         if v == 0 {
-            return Number::Bad;
+            return None;
         }
         if 9999 < v {
-            return Number::Bad;
+            return None;
         }
         v = v * 10 + (b as u32 - ZERO);
-        i += 1;
     }
-    Number::Value(v, i)
+    Some((v, s.len()))
 }
 
-// The name that the field at `at` says.
-pub fn read_name(s: &[u8], at: usize) -> Name
+// The name that the field at `at` says, and the place behind it.
+pub fn read_name(s: &[u8], at: usize) -> Option<(Name, usize)>
     ensures value { result ≡ name_at s.now at }
     ensures within { NameWithin s.now at result }
 {
-    if s.len() <= at {
-        return Name::Bad;
-    }
-    let b = s[at];
+    let b = *s.get(at)?;
     if (b != b'r') & (b != b'v') {
-        return Name::Bad;
+        return None;
     }
-    let Number::Value(n, next) = read_number(s, at + 1) else {
-        return Name::Bad;
+    let (n, next) = read_number(s, at + 1)?;
+    let name = if b == b'r' {
+        Name::Real(n)
+    } else {
+        Name::Virtual(n)
     };
-    Name::Value(b == b'r', n, next)
+    Some((name, next))
 }
 
-// The allocation that the field at `at` says: a number, or `-` for none.
-pub fn read_allocation(s: &[u8], at: usize) -> Allocation
+// The allocation that the field at `at` says, a register's number or `-` for none, and the place behind it.
+pub fn read_allocation(s: &[u8], at: usize) -> Option<(Option<u32>, usize)>
     ensures value { result ≡ allocation_at s.now at }
     ensures within { AllocationWithin s.now at result }
 {
-    if s.len() <= at {
-        return Allocation::Bad;
-    }
-    if s[at] != b'-' {
-        let Number::Value(r, next) = read_number(s, at) else {
-            return Allocation::Bad;
-        };
-        return Allocation::Value(true, r, next);
+    if *s.get(at)? != b'-' {
+        let (r, next) = read_number(s, at)?;
+        return Some((Some(r), next));
     }
     let next = at + 1;
     if next < s.len() {
         if !ends_field(s[next]) {
-            return Allocation::Bad;
+            return None;
         }
     }
-    Allocation::Value(false, 0, next)
+    Some((None, next))
 }
 
 pub fn write_byte(out: &mut [u8], at: usize, b: u8) -> usize
@@ -184,9 +157,12 @@ pub fn write_before_number(out: &mut [u8], at: usize, b: u8, v: u32) -> usize
 }
 
 // A real or a virtual name.
-pub fn write_name(out: &mut [u8], at: usize, real: bool, n: u32) -> usize
-    requires { at + length (name_text (name_made real n)) ≤ length out.old }
-    ensures { Wrote out.old at (name_text (name_made real n)) out.new result }
+pub fn write_name(out: &mut [u8], at: usize, name: Name) -> usize
+    requires { at + length (name_text (named name)) ≤ length out.old }
+    ensures { Wrote out.old at (name_text (named name)) out.new result }
 {
-    write_before_number(out, at, if real { b'r' } else { b'v' }, n)
+    match name {
+        Name::Real(n) => write_before_number(out, at, b'r', n),
+        Name::Virtual(n) => write_before_number(out, at, b'v', n),
+    }
 }

@@ -1,22 +1,20 @@
--- `write_name` meets its contract: the letter that is chosen is the one that the name's text begins with (`spelled`).
-use native.Mathlib.Omega.{arith}
+-- `write_name` meets its contract: the letter is the one that the name's text begins with.
 use Rattle.paper.specs.Text.{name_text}
-use Rattle.fields.specs.Fields.{name_made}
+use Rattle.fields.specs.Fields.{named}
 use Rattle.fields.proofs.write_name.Goals as goal
-use Rattle.fields.proofs.write_name.Goals.{then-real, else-real}
+
+pub write_before_number-requires-in-Virtual : goal.write_before_number-requires-in-Virtual
+unfolding name_text named
+write_before_number-requires-in-Virtual c = rw c.in-Virtual.is at c.requires
 
 pub write_before_number-requires : goal.write_before_number-requires
-unfolding name_text name_made
-write_before_number-requires c =
-    elim c.if-real.branch [
-      | then-real w ↦ (let h = rw w.if-real.true at c.requires in omega (arith, h))
-      | else-real w ↦ (let h = rw w.if-real.false at c.requires in omega (arith, h))
-    ]
+unfolding name_text named
+write_before_number-requires c = rw c.in-Real.is at c.requires
 
-pub returns : goal.returns
-unfolding name_text name_made
-returns c =
-    elim c.if-real.branch [
-      | then-real w ↦ rw w.if-real.true (rw w.write_before_number-is at c.write_before_number.ensures)
-      | else-real w ↦ rw w.if-real.false (rw w.write_before_number-is at c.write_before_number.ensures)
-    ]
+pub returns-in-Real : goal.returns-in-Real
+unfolding name_text named
+returns-in-Real c = rw c.in-Real.is c.write_before_number.ensures
+
+pub returns-in-Virtual : goal.returns-in-Virtual
+unfolding name_text named
+returns-in-Virtual c = rw c.in-Virtual.is c.write_before_number-in-Virtual.ensures
