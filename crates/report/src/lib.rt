@@ -2,15 +2,17 @@
 
 #![tactic(auto)]
 
-ghost use Rattle.std.specs.Prelude.{◌∷◌, ◌+◌, ◌≤◌, ◌<◌, length};
+ghost use Rattle.std.specs.Prelude.{◌≡◌, ◌∷◌, ◌+◌, ◌≤◌, ◌<◌, length};
 ghost use Rattle.lists.specs.Sets.{Wrote};
 ghost use Rattle.paper.specs.Text.{tab, digits, name_text};
 ghost use Rattle.paper.specs.Limits.{max_blocks, report_size};
 ghost use Rattle.paper.specs.Report.{behind_tabs, unreached_text, rule_text, header_text};
 ghost use Rattle.cells.specs.Packed.{name_of_word};
+ghost use Rattle.fields.specs.Fields.{named};
 ghost use Rattle.report.specs.Lines.{field_text, field_texts, fields_line, PositionWithin};
 
 use cells::MARK;
+use fields::Name;
 use paper::Rule;
 
 const REAL_NAMES: u32 = cells::REAL_NAMES as u32;
@@ -42,16 +44,23 @@ pub struct FaultFields {
 }
 
 // The name in the nine low bits of a word.
+fn unpacked_name(w: u16) -> Name
+    ensures { named result ≡ name_of_word w }
+{
+    let name = (w % MARK) as u32;
+    if name < REAL_NAMES {
+        Name::Virtual(name)
+    } else {
+        Name::Real(name - REAL_NAMES)
+    }
+}
+
+// The same as text.
 pub fn write_packed_name(report: &mut [u8], at: usize, w: u16) -> usize
     requires { at + length (name_text (name_of_word w)) ≤ length report.old }
     ensures { Wrote report.old at (name_text (name_of_word w)) report.new result }
 {
-    let name = (w % MARK) as u32;
-    if name < REAL_NAMES {
-        fields::write_name(report, at, false, name)
-    } else {
-        fields::write_name(report, at, true, name - REAL_NAMES)
-    }
+    fields::write_name(report, at, unpacked_name(w))
 }
 
 // A tab and a field.
