@@ -4,22 +4,34 @@
 
 ghost use Rattle.std.specs.Prelude.{◌≡◌, length, replicate};
 
-pub fn clear_words(words: &mut [u16])
-    ensures { words.new ≡ replicate (length words.old) 0 }
-{
-    let mut i = 0;
-    while i < words.len() {
-        words[i] = 0;
-        i += 1;
-    }
+// A number that buffers are made of: its zero, whose clone is zero too.
+pub trait Zero: Copy {
+    ghost ZERO: { Self };
+
+    const ZERO: Self;
+
+    ghost cloned: { Self.is_infallible ZERO × ((y : Self) → Self.is_clone ZERO y → y ≡ ZERO) };
 }
 
-pub fn clear_bytes(queue: &mut [u8])
-    ensures { queue.new ≡ replicate (length queue.old) 0 }
+impl Zero for u8 {
+    ghost ZERO = { 0 };
+
+    const ZERO: u8 = 0;
+
+    ghost cloned = { (tt, λ y e. e) };
+}
+
+impl Zero for u16 {
+    ghost ZERO = { 0 };
+
+    const ZERO: u16 = 0;
+
+    ghost cloned = { (tt, λ y e. e) };
+}
+
+// Clears a buffer.
+pub fn clear<T: Zero>(buffer: &mut [T])
+    ensures { buffer.new ≡ replicate (length buffer.old) T.ZERO }
 {
-    let mut i = 0;
-    while i < queue.len() {
-        queue[i] = 0;
-        i += 1;
-    }
+    buffer.fill(T::ZERO);
 }
