@@ -64,15 +64,13 @@ pub fn crc(text: &[u8]) -> u32
 {
     let words = TABLE;
     let mut register: u32 = 0xffffffff;
-    let mut i: usize = 0;
-    while i < text.len() {
-        register = next(&words, register, text[i]);
-        i += 1;
+    for &byte in text {
+        register = next(&words, register, byte);
     }
     register ^ 0xffffffff
 }
 
-// The lowest hex digit of a number.
+// The lowest hex digit of a number. (`char::from_digit` gives a char in an Option, which is no plainer.)
 fn hex_digit(n: u32) -> u8
     ensures { result ≡ paper_seal.hex_digit (n % 16) }
 {
@@ -103,19 +101,6 @@ fn seal_line(word: u32) -> [u8; SEAL_SIZE]
     ]
 }
 
-// A text, at a place of a buffer.
-fn write_text(out: &mut [u8], at: usize, text: &[u8]) -> usize
-    requires { at + length text.now ≤ length out.old }
-    ensures { Wrote out.old at text.now out.new result }
-{
-    let mut i: usize = 0;
-    while i < text.len() {
-        out[at + i] = text[i];
-        i += 1;
-    }
-    at + i
-}
-
 // Seals the bytes of a buffer before `end`: their seal's line stands behind them. The place behind it.
 pub fn write_seal(out: &mut [u8], end: usize) -> usize
     requires { end + seal_size ≤ length out.old }
@@ -123,61 +108,46 @@ pub fn write_seal(out: &mut [u8], end: usize) -> usize
 {
     let word = crc(&out[..end]);
     let line = seal_line(word);
-    write_text(out, end, &line)
+    let behind = end + SEAL_SIZE;
+    out[end..behind].copy_from_slice(&line);
+    behind
 }
 
+#[tactic(auto, unfolding(paper::specs::Seal::is_hex, paper::specs::Text::is_digit))]
 fn is_hex(b: u8) -> bool
     ensures { result ≡ paper_seal.is_hex b }
 {
-    if (b'0' <= b) & (b <= b'9') {
-        return true;
-    }
-    (b'a' <= b) & (b <= b'f')
+    matches!(b, b'0'..=b'9' | b'a'..=b'f')
+}
+
+// Is each of these bytes a hex digit?
+fn all_hex(bytes: &[u8]) -> bool
+    ensures { result ≡ paper_seal.all_hex bytes.now }
+{
+    bytes.iter().all(|&b| is_hex(b))
 }
 
 // Have these eleven bytes the shape of a seal's line?
+#[tactic(auto, unfolding(paper::specs::Seal::seal_shaped))]
 fn seal_shaped(bytes: &[u8]) -> bool
     requires { seal_size ≤ length bytes.now }
     ensures { result ≡ paper_seal.seal_shaped bytes.now }
 {
-    if bytes[0] != b'K' {
+    if bytes[0] != b'K' || bytes[1] != b'\t' {
         return false;
     }
-    if bytes[1] != b'\t' {
-        return false;
-    }
-    let mut i: usize = 2;
-    while i < 10 {
-        if !is_hex(bytes[i]) {
-            return false;
-        }
-        i += 1;
-    }
-    bytes[10] == b'\n'
+    all_hex(&bytes[2..10]) && bytes[10] == b'\n'
 }
 
 // Can a line begin behind this text?
+#[tactic(auto, unfolding(paper::specs::Seal::closed, paper::specs::Refusals::empty))]
 fn closed(text: &[u8]) -> bool
     ensures { result ≡ paper_seal.closed text.now }
 {
-    if text.len() == 0 {
-        return true;
+    match text.last() {
+        None => true,
+        Some(&b) => b == b'\n',
     }
-    text[text.len() - 1] == b'\n'
-}
-
-fn same_text(a: &[u8], b: &[u8]) -> bool
-    requires { length a.now ≡ length b.now }
-    ensures { result ≡ same_text a.now b.now }
-{
-    let mut i: usize = 0;
-    while i < a.len() {
-        if a[i] != b[i] {
-            return false;
-        }
-        i += 1;
-    }
-    true
 }
 
 // What the seal at the end of a text comes to.
@@ -196,7 +166,7 @@ pub fn verify(text: &[u8]) -> Seal
     }
     let word = crc(&text[..end]);
     let line = seal_line(word);
-    if same_text(&text[end..], &line) {
+    if text[end..] == line[..] {
         Seal::Good
     } else {
         Seal::Wrong

@@ -23,12 +23,12 @@ returns-then-not-closed c =
 pub slice_bounds-crc-end : goal.slice_bounds-crc-end
 slice_bounds-crc-end c = simp length-take (omega arith)
 
-pub returns-then-same_text : goal.returns-then-same_text
-returns-then-same_text c =
+pub returns-then-eq : goal.returns-then-eq
+returns-then-eq c =
     let line = c.seal_line-line.ensures ∙ ap seal_line c.crc-word.ensures in
-    told _ c.if-text-lt-SEAL_SIZE.false (sym c.seal_shaped.ensures ∙ c.if-not-seal_shaped.false) (sym c.closed.ensures ∙ c.if-not-closed.false) _ line true (sym c.same_text.ensures ∙ c.if-same_text.true)
+    told _ c.if-text-lt-SEAL_SIZE.false (sym c.seal_shaped.ensures ∙ c.if-not-seal_shaped.false) (sym c.closed.ensures ∙ c.if-not-closed.false) _ line true (sym c.eq.ensures ∙ c.if-eq.true)
 
-pub returns-else-same_text : goal.returns-else-same_text
-returns-else-same_text c =
+pub returns-else-eq : goal.returns-else-eq
+returns-else-eq c =
     let line = c.seal_line-line.ensures ∙ ap seal_line c.crc-word.ensures in
-    told _ c.if-text-lt-SEAL_SIZE.false (sym c.seal_shaped.ensures ∙ c.if-not-seal_shaped.false) (sym c.closed.ensures ∙ c.if-not-closed.false) _ line false (sym c.same_text.ensures ∙ c.if-same_text.false)
+    told _ c.if-text-lt-SEAL_SIZE.false (sym c.seal_shaped.ensures ∙ c.if-not-seal_shaped.false) (sym c.closed.ensures ∙ c.if-not-closed.false) _ line false (sym c.eq.ensures ∙ c.if-eq.false)
