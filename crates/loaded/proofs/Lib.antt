@@ -1,3 +1,4 @@
+pub mod LawsCopied
 pub mod LawsPacking
 pub mod LawsHeader
 pub mod LawsBody

@@ -29,6 +29,7 @@ pub const NO_REGISTER: u16 = 63;
 pub const REGISTER: u16 = 1024;
 
 // A copy of one cell, by the rows that it goes between: a slot from a register, a register from a slot, a register from a register.
+// Its number is the tag of its step.
 #[derive(Clone, Copy)]
 pub enum CopyKind {
     Spill,
@@ -107,6 +108,7 @@ pub fn action_at(words: &[u16], k: usize) -> Action
     let tag = w % 8;
     let a = (w / 8 % 64) as usize;
     let b = (w / 512 % 64) as usize;
+    // Numbers, because the words are fixed memory: a step's kind stands packed in three bits.
     match tag {
         0 => Action::Copy {
             kind: CopyKind::Spill,
@@ -124,19 +126,19 @@ pub fn action_at(words: &[u16], k: usize) -> Action
             from: b,
         },
         3 => Action::Change {
-            inst: inst,
+            inst,
             slot: a,
             from: x,
             to: y,
         },
         4 => Action::Operation {
-            inst: inst,
+            inst,
             at: OPERAND_BASE + k * OPERAND_WORDS,
             uses: a,
             defs: b,
         },
         5 => Action::Safepoint {
-            inst: inst,
+            inst,
             mask: mask_of(x, y),
         },
         _ => Action::Copy {
@@ -144,16 +146,6 @@ pub fn action_at(words: &[u16], k: usize) -> Action
             into: NO_REGISTER as usize,
             from: NO_REGISTER as usize,
         },
-    }
-}
-
-fn tag_of(kind: CopyKind) -> usize
-    ensures { (result ≡ tag_of kind) × (result < 3) }
-{
-    match kind {
-        CopyKind::Spill => 0,
-        CopyKind::Reload => 1,
-        CopyKind::Move => 2,
     }
 }
 
@@ -181,7 +173,7 @@ fn packed(action: Action) -> [u16; STEP_WORDS]
     ensures { result ≡ packed action }
 {
     match action {
-        Action::Copy { kind, into, from } => [first_word(tag_of(kind), into, from), 0, 0, 0],
+        Action::Copy { kind, into, from } => [first_word(kind as usize, into, from), 0, 0, 0],
         Action::Change {
             inst,
             slot,
@@ -190,9 +182,9 @@ fn packed(action: Action) -> [u16; STEP_WORDS]
         } => [first_word(3, slot, 0), inst, from, to],
         Action::Operation {
             inst,
-            at: _,
             uses,
             defs,
+            ..
         } => [first_word(4, uses, defs), inst, 0, 0],
         Action::Safepoint { inst, mask } => [
             first_word(5, 0, 0),
@@ -210,11 +202,7 @@ pub fn put_action(words: &mut [u16], k: usize, action: Action)
 {
     let p = packed(action);
     let at = STEP_BASE + k * STEP_WORDS;
-    let mut i = 0;
-    while i < STEP_WORDS {
-        words[at + i] = p[i];
-        i += 1;
-    }
+    words[at..at + STEP_WORDS].copy_from_slice(&p);
 }
 
 fn word(words: &[u16], i: usize) -> usize
@@ -334,10 +322,8 @@ fn store_succs(words: &mut [u16], at: usize, succs: [u32; MAX_SUCCS], count: usi
     requires { (at + count ≤ length words.old) × (count ≤ max_succs) × ((k : ℕ) → k < count → get_or succs k 0 < 65536) }
     ensures { words.new ≡ over at count (λ k x. get_or succs k 0) words.old }
 {
-    let mut i = 0;
-    while i < count {
-        words[at + i] = succs[i] as u16;
-        i += 1;
+    for (i, &s) in succs[..count].iter().enumerate() {
+        words[at + i] = s as u16;
     }
 }
 
@@ -363,7 +349,7 @@ pub fn add_step(words: &mut [u16], action: Action)
     let k = words[STEPS_WORD];
     let total = BLOCK_BASE + (words[OPENED_WORD] as usize - 1) * BLOCK_WORDS + STEP_TOTAL_WORD;
     put_action(words, k as usize, action);
-    words[total] = words[total] + 1;
+    words[total] += 1;
     words[STEPS_WORD] = k + 1;
 }
 
@@ -372,11 +358,7 @@ fn store_operands(words: &mut [u16], at: usize, operands: [u16; OPERAND_WORDS])
     requires { at + operand_words ≤ length words.old }
     ensures { words.new ≡ over at operand_words (λ k x. get_or operands k 0) words.old }
 {
-    let mut i = 0;
-    while i < OPERAND_WORDS {
-        words[at + i] = operands[i];
-        i += 1;
-    }
+    words[at..at + OPERAND_WORDS].copy_from_slice(&operands);
 }
 
 // An operation more: its operands stand at its own place, its uses first, from DEFS_FROM on its defs.

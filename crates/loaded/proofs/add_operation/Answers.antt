@@ -5,9 +5,6 @@ use Rattle.paper.specs.Refusals.{step_record}
 use Rattle.loaded.proofs.LawsOperands.{operands_room, begun_still, counts_still, stored_from, operation_stored, operation_fits}
 use Rattle.loaded.proofs.add_operation.Goals as goal
 
-pub store_operands-requires : goal.store_operands-requires
-store_operands-requires c = operands_room _ c.requires.0
-
 pub add_step-requires : goal.add_step-requires
 add_step-requires c =
     let p = c.requires in

@@ -1,20 +1,25 @@
 -- `packed` meets its contract: one case for each kind of step; `Packs` keeps the two numbers of its first word below 64.
-use native.Mathlib.Omega.{arith}
-use Rattle.loaded.specs.Actions.{packed}
+use mathlib.Core.List.{[], ◌∷◌}
+use mathlib.Core.Path.{◌≡◌, refl, ap}
+use Prim.Native.Nat.{ℕ, ◌+◌, ◌*◌}
+use denote.Enum.Declared.{tag_of as numbered}
+use Rattle.loaded.specs.Actions.{packed, tag_of}
+use Rattle.loaded.specs.contracts.CopyKind.{the_type}
+use Rattle.loaded.specs.declared.CopyKind.{CopyKind}
+use Rattle.loaded.specs.declared.CopyKind.TheVariants.{Spill, Reload, Move}
 use Rattle.loaded.proofs.packed.Goals as goal
 
-pub first_word-requires : goal.first_word-requires
-first_word-requires c = omega (arith, c.tag_of.ensures.1, rw c.in-Copy.is at c.requires.1)
-
-pub first_word-requires-in-Change : goal.first_word-requires-in-Change
-first_word-requires-in-Change c = omega (arith, rw c.in-Change.is at c.requires.1)
-
-pub first_word-requires-in-Operation : goal.first_word-requires-in-Operation
-first_word-requires-in-Operation c = omega (arith, rw c.in-Operation.is at c.requires.1)
+-- a kind's number is its tag
+tag_is : (kind : CopyKind) → numbered the_type kind ≡ tag_of kind
+unfolding tag_of
+tag_is Spill = refl
+tag_is Reload = refl
+tag_is Move = refl
 
 pub returns-in-Copy : goal.returns-in-Copy
 unfolding packed
-returns-in-Copy c = rw (c.in-Copy.is, c.first_word.ensures, c.tag_of.ensures.0)
+returns-in-Copy c =
+    rw (c.in-Copy.is, c.first_word.ensures) (ap (λ (t : ℕ). (t + c.in-Copy.into * 8 + c.in-Copy.from * 512) ∷ 0 ∷ 0 ∷ 0 ∷ []) (tag_is c.in-Copy.kind))
 
 pub returns-in-Change : goal.returns-in-Change
 unfolding packed

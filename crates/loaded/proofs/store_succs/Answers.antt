@@ -1,21 +1,14 @@
-use mathlib.Core.Path.{◌≡◌, refl, sym}
+use mathlib.Core.Path.{◌≡◌, sym}
 use native.Mathlib.Omega.{arith}
-use lib.ListN.{length-set}
+use Rattle.std.proofs.lemmas.List.{get_or-take, length-take-le}
+use lib.ListN.{length, take}
 use Rattle.lists.specs.Over.{over_none, over_step}
 use Rattle.loaded.proofs.store_succs.Goals as goal
 
 pub loop-i-init : goal.loop-i-init
-loop-i-init c = (omega arith, refl, sym (over_none _ _ _))
-
-pub overflow_cast-words : goal.overflow_cast-words
-overflow_cast-words c = omega (arith, c.requires.2 c.loop-i.i (omega arith))
+loop-i-init c = sym (over_none _ _ _)
 
 pub loop-i-preserved : goal.loop-i-preserved
-loop-i-preserved c = let inv = c.loop-i.invariant in
-    (omega arith, simp length-set inv.1, over_step _ _ _ _ 0 _ _ (omega arith) inv.2 refl)
-
-pub shape_of-words : goal.shape_of-words
-shape_of-words c = c.loop-i.invariant.1
-
-pub returns : goal.returns
-returns c = let e : c.loop-i.i ≡ c.args.count = omega arith in rw (← e) c.loop-i.invariant.2
+loop-i-preserved c =
+    let few : length (take c.args.count c.args.succs) ≡ c.args.count = length-take-le _ _ (omega arith) in
+    over_step _ _ _ _ 0 _ _ (omega arith) c.loop-i.invariant (get_or-take c.args.count c.args.succs c.loop-i.i 0 (omega arith))
