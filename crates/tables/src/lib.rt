@@ -43,13 +43,10 @@ pub fn begin_blocks(rule: Rule, words: &mut [u16])
     ensures { RunKept words.old words.new × Tables rule (sheet_of words.old) words.new (paper_runs.before rule (sheet_of words.old)) }
 {
     let counts = loaded::row_counts(words);
-    let blocks = loaded::blocks(words);
     let s = cells::unreached_state(rule);
-    let mut b = 0;
-    while b < blocks {
+    for b in 0..loaded::blocks(words) {
         cells::store(words, STATE_BASE + b * STATE_WORDS, s, counts);
         words[MARK_BASE + b] = first_mark(rule);
-        b += 1;
     }
 }
 
