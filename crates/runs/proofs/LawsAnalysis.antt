@@ -1,5 +1,6 @@
 -- The loop over the queue, from the beginning to the whole analysis.
 use mathlib.Core.Path.{◌≡◌, refl, sym, ap, subst, ◌∙◌}
+use mathlib.Core.Bool.{Bool, false}
 use mathlib.Core.List.{List, [], ◌∷◌}
 use Prim.Native.Nat.{ℕ, suc, ◌+◌, ◌≤◌, ◌<◌}
 use native.Mathlib.Numerals.{add-one}
@@ -30,7 +31,7 @@ use Rattle.runs.proofs.LawsQueue.{length_held, none_held}
 use Rattle.runs.proofs.LawsVisit.{bound_fits}
 
 -- the loop over the queue, after so many visits
-pub record Going (rule : Rule) (words₀ queue₀ words queue : List ℕ) (ring : Ring) (settled : List ℕ) (visits : ℕ) : Type 0 where
+pub record Going (rule : Rule) (words₀ queue₀ words queue : List ℕ) (ring : Ring) (settled : List Bool) (visits : ℕ) : Type 0 where
   pub kept : RunKept words₀ words
   pub same_length : length queue ≡ length queue₀
   pub running : Running rule (sheet_of words₀) words queue ring visits (run (flow rule (sheet_of words₀)) visits (begin rule (sheet_of words₀)))
@@ -38,7 +39,7 @@ pub record Going (rule : Rule) (words₀ queue₀ words queue : List ℕ) (ring 
   pub no_sooner : (k : ℕ) → k < visits → ¬ ((run (flow rule (sheet_of words₀)) k (begin rule (sheet_of words₀))).queue ≡ [])
 
 pub going_begins : {rule : Rule} {words queue words' queue' : List ℕ} {ring : Ring} → Loaded words → missing_allocations (sheet_of words) ≡ [] → Begins rule words queue words' queue' ring
-    → Going rule words' queue' words' queue' ring (replicate max_blocks 0) 0
+    → Going rule words' queue' words' queue' ring (replicate max_blocks false) 0
 unfolding run
 going_begins {rule} {words} {words' = words'} {queue' = queue'} {ring = ring} loaded all b = record {
   kept = kept_same _ _ _;
@@ -53,7 +54,7 @@ going_begins {rule} {words} {words' = words'} {queue' = queue'} {ring = ring} lo
   no_sooner = λ k h e. absurd (omega arith);
 }
 
-module _ {rule : Rule} {words₀ queue₀ words queue : List ℕ} {ring : Ring} {settled : List ℕ} {visits : ℕ} (g : Going rule words₀ queue₀ words queue ring settled visits) where
+module _ {rule : Rule} {words₀ queue₀ words queue : List ℕ} {ring : Ring} {settled : List Bool} {visits : ℕ} (g : Going rule words₀ queue₀ words queue ring settled visits) where
   pub going_continues : Continues rule words queue ring
   going_continues = record { sheet = _; visits = visits; at = _; running = g.running }
 
@@ -72,7 +73,7 @@ module _ {rule : Rule} {words₀ queue₀ words queue : List ℕ} {ring : Ring} 
       let n : length (held queue ring) ≡ 0 = ap length (g.running.stands.waiting ∙ e) in
       omega (arith, n, length_held queue ring.front ring.count)
 
-  pub going_more : {words' queue' : List ℕ} {ring' : Ring} {settled' : List ℕ} → 0 < ring.count → Visited rule words queue ring settled words' queue' ring' settled' → Going rule words₀ queue₀ words' queue' ring' settled' (visits + 1)
+  pub going_more : {words' queue' : List ℕ} {ring' : Ring} {settled' : List Bool} → 0 < ring.count → Visited rule words queue ring settled words' queue' ring' settled' → Going rule words₀ queue₀ words' queue' ring' settled' (visits + 1)
   going_more {words'} {queue'} {ring'} h m = record {
     kept = kept_then _ _ g.kept m.kept (omega arith) (omega arith) (omega arith) (omega arith);
     same_length = m.same_length ∙ g.same_length;

@@ -1,6 +1,7 @@
 -- A visit: its block is a block with a state, there is room for each successor that comes to wait, and at the end one step of the
 -- run is done.
 use mathlib.Core.Path.{◌≡◌, refl, sym, ap, subst, ◌∙◌}
+use mathlib.Core.Bool.{Bool, true}
 use mathlib.Core.List.{List, [], ◌∷◌, ◌++◌}
 use mathlib.Core.Option.{some}
 use Prim.Native.Nat.{ℕ, ◌+◌, ◌*◌, ◌-◌, ◌≤◌, ◌<◌}
@@ -62,13 +63,13 @@ serving_more {rule} {words₀} {s = s} {from = from} {i = i} g l low fits e m = 
 }
 
 -- and the settled blocks have passed their states on, or have the result to pass on to successors that are not served yet
-pub record Settling (rule : Rule) (words₀ queue₀ : List ℕ) (ring₀ : Ring) (s : List (List ℕ)) (from total : ℕ) (settled₀ settled : List ℕ) (i : ℕ) : Type 0 where
+pub record Settling (rule : Rule) (words₀ queue₀ : List ℕ) (ring₀ : Ring) (s : List (List ℕ)) (from total : ℕ) (settled₀ settled : List Bool) (i : ℕ) : Type 0 where
   pub passing : (S : Sheet) (r : Run State) → Stands rule S words₀ queue₀ ring₀ r
       → Passing (flow rule S) (Settled settled₀) (state_of (counts_of S) s) (region from total words₀) r.table
       → Passing (flow rule S) (Settled settled) (state_of (counts_of S) s) (region (from + i) (total - i) words₀)
       (spread (flow rule S) (region from i words₀) (state_of (counts_of S) s) r).table
 
-pub settling_none : {rule : Rule} {words queue : List ℕ} {ring : Ring} {s : List (List ℕ)} {from total : ℕ} {settled : List ℕ} → Settling rule words queue ring s from total settled settled 0
+pub settling_none : {rule : Rule} {words queue : List ℕ} {ring : Ring} {s : List (List ℕ)} {from total : ℕ} {settled : List Bool} → Settling rule words queue ring s from total settled settled 0
 unfolding spread region
 settling_none {from = from} {total = total} = record {
   passing = λ S r h p.
@@ -77,7 +78,7 @@ settling_none {from = from} {total = total} = record {
       rw (a, b) p;
 }
 
-pub settling_more : {rule : Rule} {words₀ queue₀ : List ℕ} {ring₀ : Ring} {s : List (List ℕ)} {from total : ℕ} {settled₀ settled : List ℕ} {words queue : List ℕ} {ring : Ring} {i next : ℕ} {settled' : List ℕ}
+pub settling_more : {rule : Rule} {words₀ queue₀ : List ℕ} {ring₀ : Ring} {s : List (List ℕ)} {from total : ℕ} {settled₀ settled : List Bool} {words queue : List ℕ} {ring : Ring} {i next : ℕ} {settled' : List Bool}
     → Serving rule words₀ queue₀ ring₀ s from total words queue ring i → Settling rule words₀ queue₀ ring₀ s from total settled₀ settled i → i < total → from + total ≤ state_base → from + total ≤ length words₀
     → next ≡ get_or words (from + i) 0 → Unsettled rule words queue ring next s settled settled'
     → Settling rule words₀ queue₀ ring₀ s from total settled₀ settled' (i + 1)
@@ -175,7 +176,7 @@ module _ {rule : Rule} {words queue : List ℕ} {ring ring₁ : Ring} (c : Conti
       record { small = omega (arith, first_below, L.blocks); succs = first_bounds.succs; size = L.size }
 
   -- it is settled: the visit changes nothing but the queue
-  pub visited_settled : (settled : List ℕ) → Settled settled (get_or queue ring.front 0) → Visited rule words queue ring settled words queue ring₁ settled
+  pub visited_settled : (settled : List Bool) → Settled settled (get_or queue ring.front 0) → Visited rule words queue ring settled words queue ring₁ settled
   visited_settled settled q = record {
     kept = kept_same _ _ _;
     same_length = refl;
@@ -228,7 +229,7 @@ module _ {rule : Rule} {words queue : List ℕ} {ring ring₁ : Ring} (c : Conti
             rw (step_visit (flow rule S) r (first_of queue ring) (held queue ring₁) _ (sym h.waiting ∙ taken.holds) (first_state S r h), ← made.is S h.tables.sheet, first_succs S h.tables.sheet, ← all)
             (g.moved.stands S _ (rest_stands S r h))
 
-    pub visited_run : {settled settled' : List ℕ} → Settling rule words queue ring₁ s (succ_base (first_of queue ring)) (succ_total words (first_of queue ring)) (set settled (first_of queue ring) 1) settled' i
+    pub visited_run : {settled settled' : List Bool} → Settling rule words queue ring₁ s (succ_base (first_of queue ring)) (succ_total words (first_of queue ring)) (set settled (first_of queue ring) true) settled' i
         → succ_total words (get_or queue ring.front 0) ≤ i → Visited rule words queue ring settled words' queue' ring' settled'
     unfolding flow
     visited_run {settled} {settled'} m l =
@@ -243,7 +244,7 @@ module _ {rule : Rule} {words queue : List ℕ} {ring ring₁ : Ring} (c : Conti
             let rest : Run State = record { table = r.table; queue = held queue ring₁ } in
             let all : i ≡ succ_total words b = omega (arith, g.past) in
             let none : succ_total words b - i ≡ 0 = omega arith in
-            let begun : Passing (flow rule S) (Settled (set settled b 1)) x (region (succ_base b) (succ_total words b) words) r.table =
+            let begun : Passing (flow rule S) (Settled (set settled b true)) x (region (succ_base b) (succ_total words b) words) r.table =
             rw (made.is S h.tables.sheet, ← first_succs S h.tables.sheet) (passing_first rule S b _ settled r.table (first_state S r h) k) in
             let ended : PassedOn (flow rule S) (Settled settled') (spread (flow rule S) (region (succ_base b) i words) x rest).table =
             passing_done (flow rule S) _ x (rw (none, region_none) at (m.passing S rest (rest_stands S r h) begun)) in

@@ -1,6 +1,6 @@
 -- Blocks that are settled: the state has not changed since the last visit, so what the block makes of it was passed on, and another
--- visit changes nothing. `settled` has a byte for each block, 1 where it is settled.
-use Rattle.std.specs.Prelude.{◌≡◌, Bool, cond, List, ℕ, length, get_or, set}
+-- visit changes nothing. `settled` says of each block whether it is settled.
+use Rattle.std.specs.Prelude.{◌≡◌, Bool, true, false, cond, List, ℕ, length, get_or, set}
 use Rattle.paper.specs.Sheet.{Sheet}
 use Rattle.paper.specs.Steps.{State, counts_of}
 use Rattle.paper.specs.Runs.{Run, step, flow}
@@ -12,19 +12,19 @@ use Rattle.tables.specs.Table.{arrives}
 use Rattle.runs.specs.Stands.{Stands}
 use Rattle.runs.specs.declared.Ring.{Ring}
 
-abbrev pub Settled : List ℕ → ℕ → Type 0
-Settled settled b = get_or settled b 0 ≡ 1
+abbrev pub Settled : List Bool → ℕ → Type 0
+Settled settled b = get_or settled b false ≡ true
 
 -- block b is settled no more where what came is new
-unfoldable pub unsettled : Bool → ℕ → List ℕ → List ℕ
-unsettled new b settled = cond new (set settled b 0) settled
+unfoldable pub unsettled : Bool → ℕ → List Bool → List Bool
+unsettled new b settled = cond new (set settled b false) settled
 
 -- the state s came to block b
-pub record Unsettled (rule : Rule) (words queue : List ℕ) (ring : Ring) (b : ℕ) (s : List (List ℕ)) (settled settled' : List ℕ) : Type 0 where
+pub record Unsettled (rule : Rule) (words queue : List ℕ) (ring : Ring) (b : ℕ) (s : List (List ℕ)) (settled settled' : List Bool) : Type 0 where
   pub is : (S : Sheet) (r : Run State) → Stands rule S words queue ring r → settled' ≡ unsettled (arrives rule (r.table b) (state_of (counts_of S) s)) b settled
 
 -- one visit of a run whose settled blocks have passed their states on
-pub record Visited (rule : Rule) (words queue : List ℕ) (ring : Ring) (settled words' queue' : List ℕ) (ring' : Ring) (settled' : List ℕ) : Type 0 where
+pub record Visited (rule : Rule) (words queue : List ℕ) (ring : Ring) (settled : List Bool) (words' queue' : List ℕ) (ring' : Ring) (settled' : List Bool) : Type 0 where
   pub kept : RunKept words words'
   pub same_length : length queue' ≡ length queue
   pub stands : (S : Sheet) (r : Run State) → Stands rule S words queue ring r → PassedOn (flow rule S) (Settled settled) r.table

@@ -78,12 +78,12 @@ fn begin(rule: Rule, words: &mut [u16], queue: &mut [u8]) -> Ring
 }
 
 // Where what came to block b is new, the block waits, and is settled no more.
-fn wait(new: bool, queue: &mut [u8], settled: &mut [u8; MAX_BLOCKS], ring: Ring, b: usize) -> Ring
+fn wait(new: bool, queue: &mut [u8], settled: &mut [bool; MAX_BLOCKS], ring: Ring, b: usize) -> Ring
     requires { Sound queue.old ring × (ring.count < queue_size) × (b < max_blocks) }
     ensures { Waits new b queue.old ring queue.new result × (settled.new ≡ unsettled new b settled.old) }
 {
     if new {
-        settled[b] = 0;
+        settled[b] = false;
         append(queue, ring, b as u8)
     } else {
         ring
@@ -97,7 +97,7 @@ fn visit(
     rule: Rule,
     words: &mut [u16],
     queue: &mut [u8],
-    settled: &mut [u8; MAX_BLOCKS],
+    settled: &mut [bool; MAX_BLOCKS],
     ring: Ring,
 ) -> Ring
     requires { (table.now ≡ meet_table) × Continues rule words.old queue.old ring × (0 < ring.count) }
@@ -106,19 +106,15 @@ fn visit(
     let front = ring.front;
     let b = queue[front] as usize;
     let mut waiting = take(ring);
-    if settled[b] == 1 {
+    if settled[b] {
         return waiting;
     }
-    settled[b] = 1;
+    settled[b] = true;
     let result = tables::result_of(rule, words, b);
-    let total = loaded::succ_total(words, b);
-    let mut i = 0;
-    while i < total {
+    for i in 0..loaded::succ_total(words, b) {
         let s = loaded::successor(words, b, i);
         let new = tables::join(table, rule, words, s, result);
-        let next = wait(new, queue, settled, waiting, s);
-        waiting = next;
-        i += 1;
+        waiting = wait(new, queue, settled, waiting, s);
     }
     waiting
 }
@@ -130,11 +126,10 @@ pub fn analyze(rule: Rule, words: &mut [u16], queue: &mut [u8]) -> usize
 {
     let table = cells::meet_table();
     let mut ring = begin(rule, words, queue);
-    let mut settled = [0u8; MAX_BLOCKS];
+    let mut settled = [false; MAX_BLOCKS];
     let mut visits: usize = 0;
     while 0 < ring.count {
-        let next = visit(&table, rule, words, queue, &mut settled, ring);
-        ring = next;
+        ring = visit(&table, rule, words, queue, &mut settled, ring);
         visits += 1;
     }
     visits

@@ -6,8 +6,8 @@ pub loop-ring-init : goal.loop-ring-init
 loop-ring-init c =
     going_begins c.requires.0 c.requires.1 c.begin-ring.ensures
 
-pub visit-next-requires : goal.visit-next-requires
-visit-next-requires c =
+pub visit-ring-requires : goal.visit-ring-requires
+visit-ring-requires c =
     (c.meet_table-table.ensures, going_continues c.loop-ring.invariant, c.loop-ring-test.true)
 
 pub overflow_add-visits : goal.overflow_add-visits
@@ -20,7 +20,7 @@ loop-ring-smaller c =
 
 pub loop-ring-preserved : goal.loop-ring-preserved
 loop-ring-preserved c =
-    going_more c.loop-ring.invariant c.loop-ring-test.true c.visit-next.ensures
+    going_more c.loop-ring.invariant c.loop-ring-test.true c.visit-ring.ensures
 
 pub returns : goal.returns
 returns c =
