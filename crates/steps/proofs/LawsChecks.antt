@@ -1,6 +1,9 @@
 -- The checks: one turn of a search, and what the errors on packed words mean.
+use Rattle.std.specs.Prelude.{Ok, Err}
+use Rattle.std.proofs.Common.{drop, drop-cons, drop_of_length-le, add-one}
+use Rattle.std.specs.Result.{result_and}
 use mathlib.Core.Path.{◌≡◌, refl, sym, ap, ap₂, ◌∙◌}
-use mathlib.Core.Bool.{Bool, true, false, cond, true≢false}
+use mathlib.Core.Bool.{Bool, true, false, cond}
 use mathlib.Core.List.{List, [], ◌∷◌, map}
 use mathlib.Core.Option.{some}
 use Prim.Native.Nat.{ℕ, ◌+◌, ◌-◌, ◌/◌, ◌%◌, ◌^◌, ◌≤◌, ◌<◌}
@@ -10,7 +13,7 @@ use borrow.Author.Tests.{eq-eqb, ne_eqb}
 use lib.ListN.{length, get_or}
 use lib.Count.{count_trailing_zeros}
 use Rattle.lists.specs.Region.{region}
-use Rattle.lists.specs.Regions.{region_cons, region_none, All, all_region}
+use Rattle.lists.specs.Regions.{All, all_region}
 use Rattle.lists.specs.Split.{by_equal}
 use Rattle.lists.specs.Bits.{set_bits, no_bits, lowest, trailing_below, set_bits_below}
 use Rattle.paper.specs.Cells.{named}
@@ -20,80 +23,54 @@ use Rattle.cells.specs.Packed.{name_of_word, marked, cell_of}
 use Rattle.cells.specs.States.{state_of}
 use Rattle.cells.specs.Laws.{pick_name, pick_other, same_name, is_named, unnamed, state_cell}
 use Rattle.loaded.specs.Actions.{no_register, register_of, operand_of, operands}
-use Rattle.steps.specs.Faults.{fault_of}
-use Rattle.steps.specs.Checks.{use_error, change_error, slot_error, or_else, first_error, use_in, slot_in, is_error}
-use Rattle.steps.specs.declared.CheckerError.{CheckerError}
-use Rattle.steps.specs.declared.CheckerError.TheVariants.{Nothing, UnknownValueInReg, IncorrectValueInReg, UnknownValueInSlot, IncorrectValueInSlot, StackMapSpecifiesNonRefSlot, StackMapSpecifiesUndefinedSlot}
+use Rattle.steps.specs.Faults.{error_fault, fault_of}
+use Rattle.steps.specs.Checks.{CheckResult, use_error, change_error, slot_error, first_error, use_in, slot_in}
+use Rattle.steps.specs.declared.CheckerError.TheVariants.{StackMapSpecifiesNonRefSlot}
 
--- an error ends the search, and nothing lets it go on
-goes_on : (e later : CheckerError) → is_error e ≡ false → or_else e later ≡ later
-unfolding is_error or_else
-goes_on Nothing later h = refl
-goes_on (UnknownValueInReg r) later h = absurd (true≢false h)
-goes_on (IncorrectValueInReg r x a) later h = absurd (true≢false h)
-goes_on (UnknownValueInSlot k x) later h = absurd (true≢false h)
-goes_on (IncorrectValueInSlot k x a) later h = absurd (true≢false h)
-goes_on (StackMapSpecifiesNonRefSlot k) later h = absurd (true≢false h)
-goes_on (StackMapSpecifiesUndefinedSlot k) later h = absurd (true≢false h)
+-- one turn of a search: what is wrong with the first ends it, and where nothing is, the rest decides
+abbrev pub Turn : CheckResult → CheckResult → CheckResult → Type 0
+Turn whole (Ok u) rest = whole ≡ rest
+Turn whole (Err error) rest = whole ≡ Err error
 
-ends_here : (e later : CheckerError) → is_error e ≡ true → or_else e later ≡ e
-unfolding is_error or_else
-ends_here Nothing later h = absurd (true≢false (sym h))
-ends_here (UnknownValueInReg r) later h = refl
-ends_here (IncorrectValueInReg r x a) later h = refl
-ends_here (UnknownValueInSlot k x) later h = refl
-ends_here (IncorrectValueInSlot k x a) later h = refl
-ends_here (StackMapSpecifiesNonRefSlot k) later h = refl
-ends_here (StackMapSpecifiesUndefinedSlot k) later h = refl
+turned : (whole first rest : CheckResult) → whole ≡ result_and first rest → Turn whole first rest
+turned whole (Ok u) rest e = e
+turned whole (Err error) rest e = e
 
--- one turn of a search: e is the first error, r whether it is one
-module _ (whole first rest e : CheckerError) (r : Bool) (ew : whole ≡ or_else first rest) (ee : e ≡ first) (er : r ≡ is_error e) where
-  pub passed : r ≡ false → whole ≡ rest
-  passed h = ew ∙ goes_on first rest (rw (← ee) (sym er ∙ h))
-
-  pub failed : r ≡ true → e ≡ whole
-  failed h = ee ∙ sym (ew ∙ ends_here first rest (rw (← ee) (sym er ∙ h)))
-
--- the search over the words of a region
-module _ (f : ℕ → CheckerError) (words : List ℕ) (at left : ℕ) where
-  pub no_use : left ≡ 0 → Nothing ≡ first_error f (region at left words)
+-- the search over words, from the i-th on
+module _ (f : ℕ → CheckResult) (words : List ℕ) (i : ℕ) where
+  pub no_use : length words ≤ i → Ok tt ≡ first_error f (drop i words)
   unfolding first_error
-  no_use e = rw (e, region_none)
+  no_use h = rw (drop_of_length-le words h)
 
-  pub next_use : (left ≡ 0 → ⊥) → at < length words → first_error f (region at left words) ≡ or_else (f (get_or words at 0)) (first_error f (region (at + 1) (left - 1) words))
+  pub next_use : i < length words → Turn (first_error f (drop i words)) (f (get_or words i 0)) (first_error f (drop (i + 1) words))
   unfolding first_error
-  next_use d h = rw (region_cons at left words (omega arith) h)
+  next_use h = turned _ _ _ (rw (drop-cons words i 0 h, add-one))
 
 -- the search over the bits of a mask
-module _ (f : ℕ → CheckerError) (mask : ℕ) where
-  pub no_slot : mask ≡ 0 → Nothing ≡ first_error f (set_bits mask)
+module _ (f : ℕ → CheckResult) (mask : ℕ) where
+  pub no_slot : mask ≡ 0 → Ok tt ≡ first_error f (set_bits mask)
   unfolding first_error
   no_slot e = rw (e, no_bits)
 
   pub next_slot : (mask ≡ 0 → ⊥) → mask < 2 ^ 32
-      → first_error f (set_bits mask) ≡ or_else (f (count_trailing_zeros 32 mask)) (first_error f (set_bits (mask - 2 ^ count_trailing_zeros 32 mask)))
+      → Turn (first_error f (set_bits mask)) (f (count_trailing_zeros 32 mask)) (first_error f (set_bits (mask - 2 ^ count_trailing_zeros 32 mask)))
   unfolding first_error set_bits
-  next_slot d h = rw (lowest 32 0 mask (omega arith) h, zero-add)
+  next_slot d h = turned _ _ _ (rw (lowest 32 0 mask (omega arith) h, zero-add))
 
 pub slot_below : (mask : ℕ) → (mask ≡ 0 → ⊥) → mask < 2 ^ 32 → count_trailing_zeros 32 mask < 32
 slot_below mask d h = trailing_below 32 32 mask (omega arith) h
 
 -- what an error means
-fault_or_else : (e later : CheckerError) → fault_of (or_else e later) ≡ first_of (fault_of e) (fault_of later)
-unfolding fault_of or_else first_of
-fault_or_else Nothing later = refl
-fault_or_else (UnknownValueInReg r) later = refl
-fault_or_else (IncorrectValueInReg r x a) later = refl
-fault_or_else (UnknownValueInSlot k x) later = refl
-fault_or_else (IncorrectValueInSlot k x a) later = refl
-fault_or_else (StackMapSpecifiesNonRefSlot k) later = refl
-fault_or_else (StackMapSpecifiesUndefinedSlot k) later = refl
+fault_and : (r later : CheckResult) → fault_of (result_and r later) ≡ first_of (fault_of r) (fault_of later)
+unfolding fault_of first_of
+fault_and (Ok u) later = refl
+fault_and (Err e) later = refl
 
 low_name : (w : ℕ) → name_of_word (w % 512) ≡ name_of_word w
 low_name w = same_name (w % 512) w (omega arith)
 
 use_means : (u w : ℕ) → fault_of (use_error u w) ≡ check_use (operand_of u) (cell_of w)
-unfolding use_error fault_of check_use operand_of
+unfolding use_error fault_of error_fault check_use operand_of
 use_means u w =
     by_equal (w / 1024 % 4) 3
     (λ k.
@@ -103,7 +80,7 @@ use_means u w =
     λ d. rw (ne_eqb _ _ d) (unnamed (λ c. some (paper.unknown_value_in_reg (register_of (u / 1024)))) (check_use (operand_of u)) refl refl refl w d)
 
 change_means : (k from w : ℕ) → fault_of (change_error k from w) ≡ check_change k (name_of_word from) (cell_of w)
-unfolding change_error fault_of check_change
+unfolding change_error fault_of error_fault check_change
 change_means k from w =
     by_equal (w / 1024 % 4) 3
     (λ e3.
@@ -113,13 +90,13 @@ change_means k from w =
     λ d. rw (ne_eqb _ _ d, low_name from) (unnamed (λ c. some (paper.unknown_value_in_slot k (name_of_word from))) (check_change k (name_of_word from)) refl refl refl w d)
 
 slot_means : (k w : ℕ) → fault_of (slot_error k w) ≡ check_slot k (cell_of w)
-unfolding slot_error fault_of check_slot
+unfolding slot_error fault_of error_fault check_slot
 slot_means k w =
     by_equal (w / 1024 % 4) 3
     (λ e3. rw (eq-eqb _ _ e3, is_named w e3) (go (marked w)))
     λ d. rw (ne_eqb _ _ d) (unnamed (λ c. some (paper.stack_map_specifies_undefined_slot k)) (check_slot k) refl refl refl w d)
   where
-    go : (m : Bool) → fault_of (cond m Nothing (StackMapSpecifiesNonRefSlot k)) ≡ check_slot k (named (name_of_word w) m)
+    go : (m : Bool) → fault_of (cond m (Ok tt) (Err (StackMapSpecifiesNonRefSlot k))) ≡ check_slot k (named (name_of_word w) m)
     go true = refl
     go false = refl
 
@@ -138,7 +115,7 @@ module _ (counts : List ℕ) (s : List (List ℕ)) where
   unfolding All first_error check_uses fault_of operand_of
   uses_list [] a = refl
   uses_list (u ∷ us) a =
-      fault_or_else (use_in (get_or s 0 []) u) (first_error (use_in (get_or s 0 [])) us)
+      fault_and (use_in (get_or s 0 []) u) (first_error (use_in (get_or s 0 [])) us)
       ∙ ap₂ first_of
       (use_means u (get_or (get_or s 0 []) (u / 1024) 0) ∙ ap (check_use (operand_of u)) (sym (register_cell (u / 1024) a.0.0 a.0.1)))
       (uses_list us a.1)
@@ -156,7 +133,7 @@ module _ (counts : List ℕ) (s : List (List ℕ)) where
   unfolding All first_error check_slots fault_of
   slots_list [] a = refl
   slots_list (k ∷ ks) a =
-      fault_or_else (slot_in (get_or s 1 []) k) (first_error (slot_in (get_or s 1 [])) ks)
+      fault_and (slot_in (get_or s 1 []) k) (first_error (slot_in (get_or s 1 [])) ks)
       ∙ ap₂ first_of (slot_means k (get_or (get_or s 1 []) k 0) ∙ ap (check_slot k) (sym (slot_cell k a.0))) (slots_list ks a.1)
 
   pub slots_mean : (mask : ℕ) → mask < 2 ^ get_or counts 1 0

@@ -1,4 +1,5 @@
 -- The effects: defs one after the other, a step, and the steps of a block.
+use Rattle.std.proofs.Common.{drop, drop-cons, drop_of_length-le, add-one}
 use mathlib.Core.Path.{◌≡◌, refl, ◌∙◌}
 use mathlib.Core.Bool.{Bool}
 use mathlib.Core.List.{List, [], ◌∷◌, map}
@@ -7,7 +8,7 @@ use native.Mathlib.Omega.{arith}
 use borrow.Author.Tests.{ne_eqb}
 use lib.ListN.{length, get_or, set}
 use Rattle.lists.specs.Region.{region}
-use Rattle.lists.specs.Regions.{region_cons, region_none, All, all_region}
+use Rattle.lists.specs.Regions.{All, all_region}
 use Rattle.lists.specs.Bits.{set_bits}
 use Rattle.paper.specs.Text.{Name}
 use Rattle.paper.specs.Sheet as sheet
@@ -52,15 +53,15 @@ pub cleared_house : (n : Name) (S : State) → everywhere (overwritten n) S ≡ 
 unfolding cleared_of
 cleared_house n S = refl
 
--- the defs, one after the other
-module _ (rule : Rule) (words : List ℕ) (at left : ℕ) (S : State) where
-  pub no_def : left ≤ 0 → S ≡ define_words rule (region at left words) S
+-- the defs of words, from the i-th on
+module _ (rule : Rule) (words : List ℕ) (i : ℕ) (S : State) where
+  pub no_def : length words ≤ i → define_words rule (drop i words) S ≡ S
   unfolding define_words
-  no_def h = let e : left ≡ 0 = omega arith in rw (e, region_none)
+  no_def h = rw (drop_of_length-le words h)
 
-  pub next_def : 0 < left → at < length words → define_words rule (region (at + 1) (left - 1) words) (define_word rule (get_or words at 0) S) ≡ define_words rule (region at left words) S
+  pub next_def : i < length words → define_words rule (drop (i + 1) words) (define_word rule (get_or words i 0) S) ≡ define_words rule (drop i words) S
   unfolding define_words
-  next_def p h = rw (region_cons at left words p h)
+  next_def h = rw (drop-cons words i 0 h, add-one)
 
 abbrev define : Rule → (Name → Bool) → List Operand → State → State
 define Old ref ds S = old_define ref ds S

@@ -1,36 +1,21 @@
--- Operands with no allocation: whether there is one, word by word.
-use mathlib.Core.Path.{◌≡◌, refl}
-use mathlib.Core.Bool.{true, false}
-use mathlib.Core.List.{List, [], ◌∷◌}
-use Prim.Native.Nat.{ℕ, ◌+◌, ◌-◌, ◌/◌, ◌≤◌, ◌<◌}
-use native.Mathlib.Omega.{arith}
+-- Operands with no allocation: whether there is one.
+use Rattle.std.proofs.Common.{◌≡◌, refl, eqb, ◌||◌, List, [], ◌∷◌, map, ℕ, ◌/◌}
 use borrow.Author.Tests.{eq-eqb, ne_eqb}
-use lib.ListN.{length, get_or}
-use Rattle.lists.specs.Regions.{region_cons, region_none}
+use Rattle.std.specs.List.{list_any}
+use Rattle.lists.specs.Split.{by_equal}
 use Rattle.paper.specs.Report.{unallocated, first_list}
-use Rattle.loaded.specs.Actions.{no_register, register_of, operand_of, operands}
+use Rattle.loaded.specs.Actions.{no_register, register_of, operand_of}
 use Rattle.steps.specs.Faults.{some_in}
 
-module _ (words : List ℕ) (at left : ℕ) where
-  pub none_missing : left ≤ 0 → false ≡ some_in (unallocated (operands at left words))
-  unfolding operands unallocated some_in
-  none_missing h = let e : left ≡ 0 = omega arith in rw (e, region_none)
+pub any_missing : (words : List ℕ) → list_any (λ word. eqb (word / 1024) no_register) words ≡ some_in (unallocated (map operand_of words))
+unfolding operand_of register_of unallocated some_in
+any_missing [] = refl
+any_missing (word ∷ words) = by_equal (word / 1024) no_register
+    (λ e. rw (eq-eqb _ _ e))
+    (λ d. rw (ne_eqb _ _ d) (any_missing words))
 
-  module _ (p : 0 < left) (h : at < length words) where
-    pub missing_here : get_or words at 0 / 1024 ≡ no_register → true ≡ some_in (unallocated (operands at left words))
-    unfolding operands unallocated some_in operand_of register_of
-    missing_here e = rw (region_cons at left words p h, eq-eqb _ _ e)
-
-    pub missing_later : (get_or words at 0 / 1024 ≡ no_register → ⊥) → some_in (unallocated (operands at left words)) ≡ some_in (unallocated (operands (at + 1) (left - 1) words))
-    unfolding operands unallocated operand_of register_of
-    missing_later d = rw (region_cons at left words p h, ne_eqb _ _ d)
-
-pub missing_first : {A : Type 0} (a b : List A) → some_in a ≡ true → some_in a ≡ some_in (first_list a b)
+-- the second list counts where the first is empty
+pub some_first : {A : Type 0} (a b : List A) → some_in (first_list a b) ≡ (some_in a || some_in b)
 unfolding some_in first_list
-missing_first [] b e = let z : ◌≡◌ {A = ℕ} 0 1 = cc in absurd (omega arith)
-missing_first (x ∷ a) b e = refl
-
-pub missing_second : {A : Type 0} (a b : List A) → some_in a ≡ false → some_in b ≡ some_in (first_list a b)
-unfolding some_in first_list
-missing_second [] b e = refl
-missing_second (x ∷ a) b e = let z : ◌≡◌ {A = ℕ} 0 1 = cc in absurd (omega arith)
+some_first [] b = refl
+some_first (x ∷ a) b = refl

@@ -1,3 +1,4 @@
 pub mod Faults
 pub mod Checks
 pub mod Defs
+pub mod Parts

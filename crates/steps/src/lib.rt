@@ -15,7 +15,7 @@ ghost use Rattle.cells.specs.Packed.{name_of_word};
 ghost use Rattle.cells.specs.States.{state_of, RowsFit};
 ghost use Rattle.loaded.specs.Actions.{operands, step_of, steps_at, InRange, DefsMarked, RoomFor, Runnable, StepsMarked};
 ghost use Rattle.steps.specs.Faults.{fault_of, some_in};
-ghost use Rattle.steps.specs.Checks.{is_error, use_error, change_error, slot_error, first_error, use_in, slot_in};
+ghost use Rattle.steps.specs.Checks.{use_error, change_error, slot_error, first_error, use_in, slot_in};
 ghost use Rattle.steps.specs.Defs.{define_word, define_words};
 
 use cells::{KIND, KINDS, MARK, NAMED, NAMED_KIND, State};
@@ -23,10 +23,9 @@ use layout::{DEFS_FROM, ROW_WORDS};
 use loaded::{Action, NO_REGISTER, REGISTER};
 use paper::Rule;
 
-// What a check finds.
-#[derive(Clone, Copy)]
+// What is wrong with a step.
+#[derive(Clone, Copy, Debug, PartialEq, Eq)]
 pub enum CheckerError {
-    Nothing,
     UnknownValueInReg {
         reg: usize,
     },
@@ -57,24 +56,10 @@ pub fn inst_of(action: Action) -> u16
     ensures { (words : List ℕ) → result ≡ inst_of (step_of words action) }
 {
     match action {
-        Action::Copy {
-            kind: _,
-            into: _,
-            from: _,
-        } => 0,
-        Action::Change {
-            inst,
-            slot: _,
-            from: _,
-            to: _,
-        } => inst,
-        Action::Operation {
-            inst,
-            at: _,
-            uses: _,
-            defs: _,
-        } => inst,
-        Action::Safepoint { inst, mask: _ } => inst,
+        Action::Copy { .. } => 0,
+        Action::Change { inst, .. } => inst,
+        Action::Operation { inst, .. } => inst,
+        Action::Safepoint { inst, .. } => inst,
     }
 }
 
@@ -83,16 +68,9 @@ pub fn missing_among(words: &[u16], at: usize, n: usize) -> bool
     requires { at + n ≤ length words.now }
     ensures { result ≡ some_in (unallocated (operands at n words.now)) }
 {
-    let mut place = at;
-    let mut left = n;
-    while 0 < left {
-        if words[place] / REGISTER == NO_REGISTER {
-            return true;
-        }
-        place += 1;
-        left -= 1;
-    }
-    false
+    words[at..at + n]
+        .iter()
+        .any(|&word| word / REGISTER == NO_REGISTER)
 }
 
 // Does a step have an operand with no allocation?
@@ -100,145 +78,103 @@ pub fn missing(words: &[u16], action: Action) -> bool
     requires { RoomFor action words.now }
     ensures { result ≡ some_in (missing_names (step_of words.now action)) }
 {
-    let Action::Operation {
-        inst: _,
-        at,
-        uses,
-        defs,
-    } = action
-    else {
+    let Action::Operation { at, uses, defs, .. } = action else {
         return false;
     };
-    if missing_among(words, at, uses) {
-        return true;
-    }
-    missing_among(words, at + DEFS_FROM, defs)
+    missing_among(words, at, uses) || missing_among(words, at + DEFS_FROM, defs)
 }
 
-fn check_use(u: u16, w: u16) -> CheckerError
+fn check_use(u: u16, w: u16) -> Result<(), CheckerError>
     ensures { result ≡ use_error u w }
 {
     let reg = (u / REGISTER) as usize;
     if w / KIND % KINDS != NAMED_KIND {
-        return CheckerError::UnknownValueInReg { reg: reg };
+        return Err(CheckerError::UnknownValueInReg { reg });
     }
     if w % MARK == u % MARK {
-        CheckerError::Nothing
+        Ok(())
     } else {
-        CheckerError::IncorrectValueInReg {
-            reg: reg,
+        Err(CheckerError::IncorrectValueInReg {
+            reg,
             expected: u % MARK,
             actual: w % MARK,
-        }
+        })
     }
 }
 
-fn check_change(slot: usize, from: u16, w: u16) -> CheckerError
+fn check_change(slot: usize, from: u16, w: u16) -> Result<(), CheckerError>
     ensures { result ≡ change_error slot from w }
 {
     if w / KIND % KINDS != NAMED_KIND {
-        return CheckerError::UnknownValueInSlot {
-            slot: slot,
+        return Err(CheckerError::UnknownValueInSlot {
+            slot,
             expected: from % MARK,
-        };
+        });
     }
     if w % MARK == from % MARK {
-        CheckerError::Nothing
+        Ok(())
     } else {
-        CheckerError::IncorrectValueInSlot {
-            slot: slot,
+        Err(CheckerError::IncorrectValueInSlot {
+            slot,
             expected: from % MARK,
             actual: w % MARK,
-        }
+        })
     }
 }
 
-fn check_slot(slot: usize, w: u16) -> CheckerError
+fn check_slot(slot: usize, w: u16) -> Result<(), CheckerError>
     ensures { result ≡ slot_error slot w }
 {
     if w / KIND % KINDS != NAMED_KIND {
-        return CheckerError::StackMapSpecifiesUndefinedSlot { slot: slot };
+        return Err(CheckerError::StackMapSpecifiesUndefinedSlot { slot });
     }
     if w / MARK % 2 == 1 {
-        CheckerError::Nothing
+        Ok(())
     } else {
-        CheckerError::StackMapSpecifiesNonRefSlot { slot: slot }
-    }
-}
-
-// Is there something to report?
-fn is_error(error: CheckerError) -> bool
-    ensures { result ≡ is_error error }
-{
-    if let CheckerError::Nothing = error {
-        false
-    } else {
-        true
+        Err(CheckerError::StackMapSpecifiesNonRefSlot { slot })
     }
 }
 
 // The uses in order: the first that fails.
-fn check_uses(words: &[u16], at: usize, n: usize, row: &[u16; ROW_WORDS]) -> CheckerError
+fn check_uses(
+    words: &[u16],
+    at: usize,
+    n: usize,
+    row: &[u16; ROW_WORDS],
+) -> Result<(), CheckerError>
     requires { (at + n ≤ length words.now) × ((i : ℕ) → i < n → get_or words.now (at + i) 0 / 1024 < max_regs) }
     ensures { result ≡ first_error (use_in row.now) (region at n words.now) }
 {
-    let mut place = at;
-    let mut left = n;
-    let found = 'search: loop {
-        if left == 0 {
-            break 'search CheckerError::Nothing;
-        }
-        let u = words[place];
+    for &u in &words[at..at + n] {
         let reg = (u / REGISTER) as usize;
-        let error = check_use(u, row[reg]);
-        if is_error(error) {
-            break 'search error;
-        }
-        place += 1;
-        left -= 1;
-    };
-    found
+        check_use(u, row[reg])?;
+    }
+    Ok(())
 }
 
 // The listed slots, lowest first: the first that fails.
-fn check_stackmap(row: &[u16; ROW_WORDS], mask: u32) -> CheckerError
+fn check_stackmap(row: &[u16; ROW_WORDS], mask: u32) -> Result<(), CheckerError>
     ensures { result ≡ first_error (slot_in row.now) (set_bits mask) }
 {
     let mut left = mask;
-    let found = 'search: loop {
-        if left == 0 {
-            break 'search CheckerError::Nothing;
-        }
-        let slot = u32::trailing_zeros(left) as usize;
-        let error = check_slot(slot, row[slot]);
-        if is_error(error) {
-            break 'search error;
-        }
+    while left != 0 {
+        let slot = left.trailing_zeros() as usize;
+        check_slot(slot, row[slot])?;
         left = cells::without_lowest(left);
-    };
-    found
+    }
+    Ok(())
 }
 
 // What is wrong with a step in a state.
-pub fn check(words: &[u16], s: State, action: Action) -> CheckerError
+pub fn check(words: &[u16], s: State, action: Action) -> Result<(), CheckerError>
     requires { InRange row_widths words.now action }
     ensures { (counts : List ℕ) → InRange counts words.now action → fault_of result ≡ paper.check (step_of words.now action) (state_of counts s) }
 {
     match action {
-        Action::Change {
-            inst: _,
-            slot,
-            from,
-            to: _,
-        } => check_change(slot, from, s[1][slot]),
-        Action::Operation {
-            inst: _,
-            at,
-            uses,
-            defs: _,
-        } => check_uses(words, at, uses, &s[0]),
-        Action::Safepoint { inst: _, mask } => check_stackmap(&s[1], mask),
-        _ => CheckerError::Nothing,
+        Action::Copy { .. } => Ok(()),
+        Action::Change { slot, from, .. } => check_change(slot, from, s[1][slot]),
+        Action::Operation { at, uses, .. } => check_uses(words, at, uses, &s[0]),
+        Action::Safepoint { mask, .. } => check_stackmap(&s[1], mask),
     }
 }
 
@@ -260,12 +196,8 @@ fn define_all(words: &[u16], at: usize, n: usize, rule: Rule, s: &mut State)
     requires { (at + n ≤ length words.now) × ((i : ℕ) → i < n → get_or words.now (at + i) 0 / 1024 < max_regs) }
     ensures { (counts : List ℕ) → RowsFit counts → state_of counts s.new ≡ define_words rule (region at n words.now) (state_of counts s.old) }
 {
-    let mut place = at;
-    let mut left = n;
-    while 0 < left {
-        define(rule, s, words[place]);
-        place += 1;
-        left -= 1;
+    for &operand in &words[at..at + n] {
+        define(rule, s, operand);
     }
 }
 
@@ -296,19 +228,9 @@ pub fn update(words: &[u16], rule: Rule, s: &mut State, action: Action)
             let rows = loaded::rows_of(kind);
             cells::copy(s, rows.into, into, rows.from, from)
         }
-        Action::Change {
-            inst: _,
-            slot,
-            from,
-            to,
-        } => change(rule, s, slot, from, to),
-        Action::Operation {
-            inst: _,
-            at,
-            uses: _,
-            defs,
-        } => define_all(words, at + DEFS_FROM, defs, rule, s),
-        Action::Safepoint { inst: _, mask } => cells::update_stackmap(rule, s, mask),
+        Action::Change { slot, from, to, .. } => change(rule, s, slot, from, to),
+        Action::Operation { at, defs, .. } => define_all(words, at + DEFS_FROM, defs, rule, s),
+        Action::Safepoint { mask, .. } => cells::update_stackmap(rule, s, mask),
     }
 }
 
@@ -318,13 +240,9 @@ pub fn effects(words: &[u16], rule: Rule, s: State, first: usize, count: usize) 
     ensures { (counts : List ℕ) → Runnable counts words.now first count → (ref : Name → Bool) → StepsMarked ref words.now first count → state_of counts result ≡ paper.effects rule ref (steps_at words.now first count) (state_of counts s) }
 {
     let mut t = s;
-    let mut k = first;
-    let mut left = count;
-    while 0 < left {
+    for k in first..first + count {
         let action = loaded::action_at(words, k);
         update(words, rule, &mut t, action);
-        k += 1;
-        left -= 1;
     }
     t
 }

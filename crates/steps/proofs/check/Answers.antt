@@ -48,6 +48,6 @@ returns-in-Safepoint c =
     λ counts h.
     rw (c.in-Safepoint.is, c.check_stackmap.ensures) (slots_mean counts c.args.s _ (rw c.in-Safepoint.is at h))
 
-pub returns-in_default : goal.returns-in_default
+pub returns-in-Copy : goal.returns-in-Copy
 unfolding fault_of step_of
-returns-in_default c = λ counts h. rw c.in_default.is (quiet _ _ _ _)
+returns-in-Copy c = λ counts h. rw c.in-Copy.is (quiet _ _ _ _)

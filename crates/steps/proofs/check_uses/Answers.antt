@@ -1,44 +1,21 @@
-use mathlib.Core.Path.{refl, sym, ◌∙◌}
-use Prim.Native.Nat.{◌/◌, ◌<◌}
-use native.Mathlib.Omega.{arith}
-use borrow.Author.Rules.{rules}
-use Rattle.lists.specs.Regions.{at_place}
-use Rattle.steps.proofs.LawsChecks.{no_use, next_use, passed, failed}
+use Rattle.std.proofs.Common.{rules, ◌∙◌, sym}
+use Rattle.steps.specs.Checks.{use_in}
+use Rattle.steps.specs.Parts.{part}
+use Rattle.steps.proofs.LawsChecks.{next_use, no_use}
 use Rattle.steps.proofs.check_uses.Goals as goal
 
-pub search-init : goal.search-init
-search-init c = (refl, search rules, refl)
+pub loop-u-init : goal.loop-u-init
+loop-u-init c = rw part
 
-pub overflow_cast-reg : goal.overflow_cast-reg
-overflow_cast-reg c = omega (
-  arith,
-  (let inv = c.search.invariant in
-      at_place (λ u. u / 1024 < 32) _ _ c.args.words.now _ c.requires.1 inv.1 (omega (arith, c.if-left-eq0.false))),
-)
+pub returns-in_err-check_use : goal.returns-in_err-check_use
+returns-in_err-check_use c =
+    let t = rw (sym c.check_use.ensures ∙ c.in_err-check_use.was) at (next_use (use_in c.args.row.now) _ c.loop-u.u-index c.loop-u-test.true) in
+    search rules
 
-pub offset_bounds-row-reg : goal.offset_bounds-row-reg
-offset_bounds-row-reg c = omega (
-  arith,
-  (let inv = c.search.invariant in
-      at_place (λ u. u / 1024 < 32) _ _ c.args.words.now _ c.requires.1 inv.1 (omega (arith, c.if-left-eq0.false))),
-)
+pub loop-u-preserved : goal.loop-u-preserved
+loop-u-preserved c =
+    let t = rw (sym c.check_use.ensures ∙ c.in_ok-check_use.was) at (next_use (use_in c.args.row.now) _ c.loop-u.u-index c.loop-u-test.true) in
+    c.loop-u.invariant ∙ t
 
-pub bounds-row-reg : goal.bounds-row-reg
-bounds-row-reg c = (let inv = c.search.invariant in
-    at_place (λ u. u / 1024 < 32) _ _ c.args.words.now _ c.requires.1 inv.1 (omega (arith, c.if-left-eq0.false)))
-
-pub search-preserved : goal.search-preserved
-search-preserved c =
-    let inv = c.search.invariant in (
-      omega (arith, c.if-left-eq0.false),
-      omega arith,
-      inv.2 ∙ passed _ _ _ _ _ (next_use _ _ _ _ c.if-left-eq0.false (omega (arith, c.if-left-eq0.false))) c.check_use-error.ensures c.is_error.ensures c.if-is_error.false,
-    )
-
-pub returns-then-left-eq0 : goal.returns-then-left-eq0
-returns-then-left-eq0 c = no_use _ _ _ _ c.if-left-eq0.true ∙ sym c.search.invariant.2
-
-pub returns-then-is_error : goal.returns-then-is_error
-returns-then-is_error c =
-    let inv = c.search.invariant in
-    failed _ _ _ _ _ (next_use _ _ _ _ c.if-left-eq0.false (omega (arith, c.if-left-eq0.false))) c.check_use-error.ensures c.is_error.ensures c.if-is_error.true ∙ sym inv.2
+pub returns : goal.returns
+returns c = no_use _ _ _ c.loop-u-test.false ∙ sym c.loop-u.invariant

@@ -1,18 +1,16 @@
-use mathlib.Core.Path.{refl, sym, ◌∙◌}
-use native.Mathlib.Omega.{arith}
-use Rattle.steps.proofs.LawsMissing.{none_missing, missing_here, missing_later}
+-- `missing_among` meets its contract: the chain looks at the words of a part, each of which stands for an operand (`any_missing`).
+use Rattle.std.proofs.Common.{rules, tests, ◌∙◌, ◌+◌, ◌-◌, ◌/◌, eqb, take, drop}
+use Rattle.std.proofs.lemmas.Iterator.{YieldsList-from_slice}
+use Rattle.std.proofs.lemmas.Iterator.Search.{any_from_yields_List}
+use Rattle.loaded.specs.Actions.{no_register, operands}
+use Rattle.steps.specs.Parts.{part}
+use Rattle.steps.proofs.LawsMissing.{any_missing}
 use Rattle.steps.proofs.missing_among.Goals as goal
 
-pub loop-left-init : goal.loop-left-init
-loop-left-init c = (refl, refl)
-
-pub returns-then-words-place-eq-NO_REGISTER : goal.returns-then-words-place-eq-NO_REGISTER
-returns-then-words-place-eq-NO_REGISTER c =
-    missing_here _ _ _ c.loop-left-test.true (omega arith) c.if-words-place-eq-NO_REGISTER.true ∙ sym c.loop-left.invariant.1
-
-pub loop-left-preserved : goal.loop-left-preserved
-loop-left-preserved c =
-    (omega arith, c.loop-left.invariant.1 ∙ missing_later _ _ _ c.loop-left-test.true (omega arith) c.if-words-place-eq-NO_REGISTER.false)
-
 pub returns : goal.returns
-returns c = none_missing _ _ _ c.loop-left-test.false ∙ sym c.loop-left.invariant.1
+unfolding operands
+returns c =
+    let a = c.args in
+    any_from_yields_List (λ word. eqb (word / 1024) no_register) _ _ _ c.any.ensures.ran
+    (YieldsList-from_slice (take (a.at + a.n - a.at) (drop a.at a.words.now)) cc) (λ x b q k. search (rules, tests))
+    ∙ rw part (any_missing _)
