@@ -17,8 +17,9 @@ use Rattle.paper.specs.Cells.{pick}
 use Rattle.paper.specs.Refusals.{step_record, any, repeats, names, allocated, elsewhere, name_beyond, reg_beyond, operand_beyond, step_beyond, step_out_of_order, beyond_limit, out_of_order, real_elsewhere, types_differ, so_far_of, first_holding}
 use Rattle.loaded.specs.declared.Counts.{Counts}
 use Rattle.records.specs.declared.Place.{Place}
-use Rattle.records.specs.declared.Judged.{Judged}
-use Rattle.records.specs.declared.Judged.TheVariants.{Passes, Breaks}
+use Rattle.std.specs.Prelude.{Ok, Err}
+use Rattle.std.specs.declared.result.Result.{Result}
+use Rattle.records.specs.declared.Breach.{Breach}
 use Rattle.records.specs.declared.Operands.{Operands}
 use Rattle.records.specs.Records.{holding, judged_of, name_of_code, register_of_code, Placed, Counted}
 use Rattle.records.specs.Parts.{counted, operand_of_codes, operands_of_codes, held, Roomy, OperandsKept, group_over, OperationWithin, below}
@@ -182,9 +183,9 @@ module _ (inst : ℕ) (gu gd : Bool) (b : (ltb 65535 inst || (gu || gd)) ≡ fal
 
 -- an operation that passes is within its limits
 pub unbroken : (counts : Counts) (place : Place) (inst : ℕ) (uses defs : Operands) {gu gd : Bool} (disorder elsewhere differ : Bool) → gu ≡ group_over counts uses
-    → gd ≡ group_over counts defs → (j : Judged) → j ≡ judged_of (first_holding (holding place (ltb 65535 inst || (gu || gd)) disorder elsewhere differ))
+    → gd ≡ group_over counts defs → (j : Result (Unit {0}) Breach) → j ≡ judged_of (first_holding (holding place (ltb 65535 inst || (gu || gd)) disorder elsewhere differ))
     → OperationWithin counts place inst uses defs j
-unbroken counts place inst uses defs {gu} {gd} disorder elsewhere differ eu ed Passes l =
+unbroken counts place inst uses defs {gu} {gd} disorder elsewhere differ eu ed (Ok passes) l =
     let c = clear_of l refl in
     record {
       placed = c.placed;
@@ -193,7 +194,7 @@ unbroken counts place inst uses defs {gu} {gd} disorder elsewhere differ eu ed P
       uses_within = sym eu ∙ uses_pass inst gu gd c.within;
       defs_within = sym ed ∙ defs_pass inst gu gd c.within;
     }
-unbroken counts place inst uses defs disorder elsewhere differ eu ed (Breaks breach) l = tt
+unbroken counts place inst uses defs disorder elsewhere differ eu ed (Err breach) l = tt
 
 module _ {us ds : List Operand} {uses defs : Operands} (ku : OperandsKept us uses) (kd : OperandsKept ds defs) (inst : ℕ) (counts : Counts) {gu gd : Bool}
     (eu : gu ≡ group_over counts uses) (ed : gd ≡ group_over counts defs) {so : Option Sheet} {place : Place}

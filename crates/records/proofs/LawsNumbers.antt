@@ -1,5 +1,5 @@
 -- The numbers of a line: read one by one, and what `F`, `T`, `B` and a step of two numbers make of them.
-use mathlib.Core.Path.{◌≡◌, refl, sym, ap, ◌∙◌, subst}
+use mathlib.Core.Path.{◌≡◌, refl, sym, ap, ◌∙◌}
 use mathlib.Core.Bool.{cond}
 use mathlib.Core.List.{List, [], ◌∷◌, ◌++◌, append-nil, append_assoc}
 use mathlib.Core.Option.{Option, none, some, map}
@@ -16,12 +16,9 @@ use Rattle.paper.specs.Sheet.{Step}
 use Rattle.paper.specs.Refusals.{Record, function_record, typed_record, block_record, step_record, Read, next, ended, ◌>>=◌, numbers_of, function_of, typed_of, block_of, two_numbers_of}
 use Rattle.fields.specs.Fields.{field_at, field_end, line_end, fields_behind}
 use Rattle.fields.specs.Cursor.{fields_at, fields_behind_tab}
-use Rattle.records.specs.Records.{Behind, Ends, Next}
-use Rattle.records.specs.Parts.{few_numbers, NumbersForm, NumbersRead, exactly, ExactlyForm, ExactlyRead}
-use Rattle.records.specs.declared.Form.{Form}
-use Rattle.records.specs.declared.Form.TheVariants as form
+use Rattle.records.specs.Records.{Behind, Next}
+use Rattle.records.specs.Parts.{few_numbers, NumbersKept, exactly, ExactlyKept}
 use Rattle.records.specs.declared.Numbers.{Numbers}
-use Rattle.records.specs.declared.Exactly.{Exactly}
 use Rattle.records.proofs.LawsPlaces.{tab_or_feed, none_left, ends_here}
 
 -- one number more
@@ -91,18 +88,14 @@ module _ {s : Bytes} {at count : ℕ} {values : List ℕ} {i : ℕ} (r : Numbers
   kept = length-take-le count values (omega (arith, r.few, r.room))
 
   -- no list of numbers, or too long a one
-  none_read : few_numbers (fields_behind s at) ≡ none → NumbersRead s at (record { form = form.Bad; count = count; values = values })
-  none_read e = record { room = r.room; few = r.few; told = e }
-
-  pub reading_bad : (get_or s i 0 ≡ line_feed → ⊥) → next number_of (fields_behind s i) ≡ none
-      → NumbersRead s at (record { form = form.Bad; count = count; values = values })
+  pub reading_bad : (get_or s i 0 ≡ line_feed → ⊥) → next number_of (fields_behind s i) ≡ none → few_numbers (fields_behind s at) ≡ none
   unfolding few_numbers
-  reading_bad f e = none_read (rw (r.whole, numbers_refused r.behind f e))
+  reading_bad f e = rw (r.whole, numbers_refused r.behind f e)
 
   module _ {v after : ℕ} (n : Next number_of s i v after) where
-    pub reading_ninth : count ≡ 8 → NumbersRead s at (record { form = form.Bad; count = count; values = values })
+    pub reading_ninth : count ≡ 8 → few_numbers (fields_behind s at) ≡ none
     unfolding few_numbers
-    reading_ninth e = none_read (rw (r.whole, numbers_taken (fields_behind s i) n.says) (go (numbers_of (fields_behind s after))))
+    reading_ninth e = rw (r.whole, numbers_taken (fields_behind s i) n.says) (go (numbers_of (fields_behind s after)))
       where
         go : (o : Option (List ℕ)) → (map (λ ns. take count values ++ ns) (map (λ ns. v ∷ ns) o) >>= λ ns. cond (leb (length ns) 8) (some ns) none) ≡ none
         go none = refl
@@ -122,32 +115,14 @@ module _ {s : Bytes} {at count : ℕ} {values : List ℕ} {i : ℕ} (r : Numbers
       line = n.line ∙ r.line;
     }
 
-  pub reading_done : get_or s i 0 ≡ line_feed → NumbersRead s at (record { form = form.Good i; count = count; values = values })
+  pub reading_done : get_or s i 0 ≡ line_feed → NumbersKept s at (record { count = count; values = values; next = i })
   unfolding few_numbers
   reading_done f = record {
+    says = rw (r.whole, numbers_ended r.behind f, append-nil, kept, le-leb count 8 r.few);
     room = r.room;
     few = r.few;
-    told = (
-      rw (r.whole, numbers_ended r.behind f, append-nil, kept, le-leb count 8 r.few),
-      ends_here r.behind r.line f,
-    );
+    ends = ends_here r.behind r.line f;
   }
-
--- the form of what was read
-
-module _ {s : Bytes} {at : ℕ} {r : Numbers} (read : NumbersRead s at r) where
-  pub numbers_good : {after : ℕ} → r.form ≡ form.Good after → (few_numbers (fields_behind s at) ≡ some (take r.count r.values)) × Ends s at after
-  numbers_good e = subst (NumbersForm s at r.count r.values) e read.told
-
-  pub numbers_bad : r.form ≡ form.Bad → few_numbers (fields_behind s at) ≡ none
-  numbers_bad e = subst (NumbersForm s at r.count r.values) e read.told
-
-module _ {s : Bytes} {at n : ℕ} {r : Exactly} (read : ExactlyRead s at n r) where
-  pub exactly_good : {after : ℕ} → r.form ≡ form.Good after → (exactly n (fields_behind s at) ≡ some (take n r.values)) × Ends s at after
-  exactly_good e = subst (ExactlyForm s at n r.values) e read.told
-
-  pub exactly_bad : r.form ≡ form.Bad → exactly n (fields_behind s at) ≡ none
-  exactly_bad e = subst (ExactlyForm s at n r.values) e read.told
 
 -- so many numbers and no more
 
@@ -188,29 +163,29 @@ few_enough n fs h = go (numbers_of fs)
         (λ e. rw e)
         λ e. let l : 8 < length ns = leb-false _ _ e in rw (e, ne_eqb (length ns) n (λ k. omega arith))
 
-module _ {s : Bytes} {at : ℕ} {r : Numbers} (read : NumbersRead s at r) (n : ℕ) (h : n ≤ 8) where
+module _ (s : Bytes) (at n : ℕ) (h : n ≤ 8) where
   told_few : {o : Option (List ℕ)} → few_numbers (fields_behind s at) ≡ o → exactly n (fields_behind s at) ≡ (o >>= sized n)
   told_few e = exactly_numbers n (fields_behind s at) ∙ few_enough n (fields_behind s at) h ∙ rw e
 
+  pub exactly_none : few_numbers (fields_behind s at) ≡ none → exactly n (fields_behind s at) ≡ none
+  exactly_none e = told_few e
+
+module _ {s : Bytes} {at : ℕ} {r : Numbers} (read : NumbersKept s at r) (n : ℕ) (h : n ≤ 8) where
   kept_values : length (take r.count r.values) ≡ r.count
   kept_values = length-take-le r.count r.values (omega (arith, read.room, read.few))
 
   -- another count
-  pub exactly_not : (r.count ≡ n → ⊥) → ExactlyRead s at n (record { form = form.Bad; values = r.values })
+  pub exactly_not : (r.count ≡ n → ⊥) → exactly n (fields_behind s at) ≡ none
   unfolding sized
-  exactly_not d = record { room = read.room; told = go r.form read.told }
-    where
-      go : (f : Form) → NumbersForm s at r.count r.values f → exactly n (fields_behind s at) ≡ none
-      go (form.Good i) w = told_few w.0 ∙ rw (ne_eqb (length (take r.count r.values)) n (λ k. d (sym kept_values ∙ k)))
-      go form.Bad w = told_few w
+  exactly_not d = told_few s at n h read.says ∙ rw (ne_eqb (length (take r.count r.values)) n (λ k. d (sym kept_values ∙ k)))
 
-  pub exactly_read : r.count ≡ n → ExactlyRead s at n (record { form = r.form; values = r.values })
+  pub exactly_read : r.count ≡ n → ExactlyKept s at n r
   unfolding sized
-  exactly_read e = record { room = read.room; told = go r.form read.told }
-    where
-      go : (f : Form) → NumbersForm s at r.count r.values f → ExactlyForm s at n r.values f
-      go (form.Good i) w = (told_few w.0 ∙ rw (eq-eqb _ _ (kept_values ∙ e), e), w.1)
-      go form.Bad w = told_few w
+  exactly_read e = record {
+    says = told_few s at n h read.says ∙ rw (eq-eqb _ _ (kept_values ∙ e), e);
+    room = read.room;
+    ends = read.ends;
+  }
 
 -- the records of numbers alone
 

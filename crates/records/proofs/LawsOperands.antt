@@ -1,5 +1,5 @@
 -- `n (name reg)*n`: operands read one by one, the first eight kept as numbers.
-use mathlib.Core.Path.{◌≡◌, refl, sym, ap, ◌∙◌, subst}
+use mathlib.Core.Path.{◌≡◌, refl, sym, ap, ◌∙◌}
 use mathlib.Core.List.{List, [], ◌∷◌, ◌++◌, append-nil, append_assoc}
 use mathlib.Core.Option.{Option, none, some, map}
 use Prim.Native.Nat.{ℕ, zero, suc, ◌+◌, ◌-◌, ◌≤◌, ◌<◌}
@@ -13,10 +13,7 @@ use Rattle.paper.specs.Sheet.{Operand}
 use Rattle.paper.specs.Refusals.{Read, next, ◌>>=◌, allocation_of, operands_of, counted_operands_of}
 use Rattle.fields.specs.Fields.{line_end, fields_behind}
 use Rattle.records.specs.Records.{Behind, Next}
-use Rattle.records.specs.Parts.{put_first, NextOperand, operand_of_codes, operands_of_codes, held, GroupRead, OperandsRead}
-use Rattle.records.specs.declared.Operands.{Operands}
-use Rattle.records.specs.declared.Form.{Form}
-use Rattle.records.specs.declared.Form.TheVariants.{Good, Bad}
+use Rattle.records.specs.Parts.{put_first, NextOperand, operand_of_codes, operands_of_codes, held, GroupRead}
 
 -- one operand
 
@@ -171,17 +168,17 @@ module _ {s : Bytes} {first n count : ℕ} {names registers : List ℕ} {i : ℕ
       ∙ sym (ap (λ t. take (count + 1) t) (codes_set names registers count a b (g.names_room ∙ sym g.registers_room))
       ∙ rw add-one (take-suc-set (operands_of_codes names registers) count (operand_of_codes a b) (omega arith))))
 
-  pub grouping_done : {at : ℕ} → n ≤ count → Next number_of s at n first
-      → GroupRead s at (record { form = Good i; count = count; names = names; registers = registers }) i
+  pub grouping_done : {at : ℕ} → n ≤ count → Next number_of s at n first → GroupRead s at (record { count = n; names = names; registers = registers }) i
   unfolding operands_of put_all counted_operands_of held
   grouping_done p w =
       let z : n - count ≡ 0 = omega arith in
+      let all : count ≡ n = omega (arith, g.most) in
       record {
         operands = g.done;
         says = rw (w.says, g.whole, z, append-nil);
         kept = record {
-          counted = g.counted;
-          kept = g.kept;
+          counted = g.counted ∙ all;
+          kept = g.kept ∙ ap (λ m. take m (operands_of_codes names registers)) all;
           small = g.small;
           room = record { names_room = g.names_room; registers_room = g.registers_room };
         };
@@ -196,11 +193,3 @@ group_bad w e = rw (w.says, e)
 pub group_uncounted : (s : Bytes) (at : ℕ) → next number_of (fields_behind s at) ≡ none → counted_operands_of (fields_behind s at) ≡ none
 unfolding counted_operands_of
 group_uncounted s at e = rw e
-
--- the form of what was read
-
-pub group_good : {s : Bytes} {at : ℕ} {g : Operands} {f : Form} {after : ℕ} → OperandsRead s at g f → f ≡ Good after → GroupRead s at g after
-group_good {s} {at} {g} read e = subst (OperandsRead s at g) e read
-
-pub group_ill : (s : Bytes) (at : ℕ) (g : Operands) {f : Form} → OperandsRead s at g f → f ≡ Bad → counted_operands_of (fields_behind s at) ≡ none
-group_ill s at g read e = subst (OperandsRead s at g) e read

@@ -1,8 +1,8 @@
 -- From field to field along a line: what stands at a place where a field ends, and the place behind the next field.
 use mathlib.Core.Path.{◌≡◌, refl, sym, ap, ◌∙◌}
-use mathlib.Core.Bool.{Bool, true, false, true≢false}
+use mathlib.Core.Bool.{Bool, false, true≢false}
 use mathlib.Core.List.{[], ◌∷◌}
-use mathlib.Core.Option.{Option, none}
+use mathlib.Core.Option.{Option, none, some}
 use Prim.Native.Nat.{ℕ, zero, suc, ◌+◌, ◌-◌, ◌≤◌, ◌<◌}
 use native.Mathlib.Nat.{not-suc-le-zero}
 use native.Mathlib.Omega.{arith}
@@ -11,15 +11,14 @@ use lib.Dec.{eqb}
 use lib.ListN.{length, get_or, drop}
 use lib.Seq.{get_or-drop}
 use Rattle.lists.specs.Split.{by_test, by_order}
-use Rattle.paper.specs.Text.{Bytes, tab, line_feed, real, name_of}
+use Rattle.paper.specs.Text.{Bytes, tab, line_feed, real, virtual}
 use Rattle.paper.specs.Refusals.{next, ended}
-use Rattle.fields.specs.Fields.{until, ends_field, field_at, field_end, line_end, fields_behind, number_at, name_at, allocation_at, NumberWithin, NameWithin, AllocationWithin, name_made, allocation_made}
+use Rattle.fields.specs.Fields.{until, ends_field, field_at, field_end, line_end, fields_behind, number_at, name_at, allocation_at, NumberWithin, named, allocated}
 use Rattle.fields.specs.Cursor.{field_stop, field_end_none, field_ended, fields_at, fields_behind_tab, fields_behind_none, line_end_tab, line_end_none}
 use Rattle.fields.specs.Told.{Says, Refuses, next_says, next_refused, number_says, number_refused, name_says, allocation_says}
-use Rattle.fields.specs.declared.Number.{Number}
-use Rattle.fields.specs.declared.Number.TheVariants.{Value, Bad}
 use Rattle.fields.specs.declared.Name.TheVariants as name
-use Rattle.fields.specs.declared.Allocation.TheVariants as allocation
+use Rattle.std.specs.Prelude.{Some, None, unwrap_or}
+use Rattle.std.specs.declared.option.Option as read
 use Rattle.records.specs.Records.{Behind, Ends, Next, NumberBehind, NameBehind, AllocationBehind, name_of_code, register_of_code}
 
 -- no byte before the first stop stops
@@ -115,40 +114,37 @@ pub no_field : {A : Type 0} (f : Bytes → Option A) (s : Bytes) (at : ℕ) → 
 unfolding next
 no_field f s at t = rw (fields_behind_none s at t)
 
-pub number_next : {s : Bytes} {at : ℕ} → Behind s at → get_or s at 0 ≡ tab → (r : Number) → number_at s (at + 1) ≡ r → NumberWithin s (at + 1) r → NumberBehind s at r
-number_next {s} {at} b t Bad e w = refused s at t (number_refused e)
-number_next b t (Value v i) e w = (taken b t (number_says e), w.small)
+pub number_next : {s : Bytes} {at : ℕ} → Behind s at → get_or s at 0 ≡ tab → (r : read.Option (ℕ × ℕ)) → number_at s (at + 1) ≡ r → NumberWithin s (at + 1) r → NumberBehind s at r
+number_next {s} {at} b t None e w = refused s at t (number_refused e)
+number_next b t (Some x) e w = (taken b t (number_says e), w.small)
 
 -- the numbers that a name and an allocation are read into
-real_code : (n : ℕ) → name_made true n ≡ name_of_code (100000 + n)
-unfolding name_made name_of_code
+real_code : (n : ℕ) → real n ≡ name_of_code (100000 + n)
+unfolding name_of_code
 real_code n = rw (le-ltb (100000 + n) 100000 (omega arith)) (ap real (omega arith))
 
-virtual_code : (n : ℕ) → n < 100000 → name_made false n ≡ name_of_code n
-unfolding name_made name_of_code
+virtual_code : (n : ℕ) → n < 100000 → virtual n ≡ name_of_code n
+unfolding name_of_code
 virtual_code n h = rw (lt-ltb n 100000 h)
 
-register_code : (r : ℕ) → r < 100000 → allocation_made true r ≡ register_of_code r
-unfolding allocation_made register_of_code
+register_code : (r : ℕ) → r < 100000 → some r ≡ register_of_code r
+unfolding register_of_code
 register_code r h = rw (lt-ltb r 100000 h)
 
-no_register_code : (r : ℕ) → allocation_made false r ≡ register_of_code 100000
-unfolding allocation_made register_of_code
-no_register_code r = refl
+no_register_code : none ≡ register_of_code 100000
+unfolding register_of_code
+no_register_code = refl
 
-module _ {s : Bytes} {at : ℕ} {x : Bool} {n i : ℕ} (b : Behind s at) (t : get_or s at 0 ≡ tab) where
-  name_next : name_at s (at + 1) ≡ name.Value x n i → NameWithin s (at + 1) (name.Value x n i) → (c : ℕ) → name_made x n ≡ name_of_code c
-      → Next name_of s at (name_of_code c) i
-  name_next e w c k = rw (← k) (taken b t (name_says e))
+module _ {s : Bytes} {at i : ℕ} (b : Behind s at) (t : get_or s at 0 ≡ tab) where
+  pub real_next : {n : ℕ} → name_at s (at + 1) ≡ Some (name.Real n, i) → n < 100000 → NameBehind s at (Some (100000 + n, i))
+  unfolding named
+  real_next {n} e w = (rw (← real_code n) (taken b t (name_says e)), omega (arith, w))
 
-  pub real_next : name_at s (at + 1) ≡ name.Value x n i → NameWithin s (at + 1) (name.Value x n i) → x ≡ true → NameBehind s at (Value (100000 + n) i)
-  real_next e w y = (name_next e w (100000 + n) (rw y (real_code n)), omega (arith, w.small))
+  pub virtual_next : {n : ℕ} → name_at s (at + 1) ≡ Some (name.Virtual n, i) → n < 100000 → NameBehind s at (Some (n, i))
+  unfolding named
+  virtual_next {n} e w = (rw (← virtual_code n w) (taken b t (name_says e)), omega (arith, w))
 
-  pub virtual_next : name_at s (at + 1) ≡ name.Value x n i → NameWithin s (at + 1) (name.Value x n i) → x ≡ false → NameBehind s at (Value n i)
-  virtual_next e w y = (name_next e w n (rw y (virtual_code n w.small)), omega (arith, w.small))
-
-  pub register_next : allocation_at s (at + 1) ≡ allocation.Value x n i → AllocationWithin s (at + 1) (allocation.Value x n i) → x ≡ true → AllocationBehind s at (Value n i)
-  register_next e w y = (rw (← register_code n w.small, ← y) (taken b t (allocation_says e)), omega (arith, w.small))
-
-  pub no_register_next : allocation_at s (at + 1) ≡ allocation.Value x n i → x ≡ false → AllocationBehind s at (Value 100000 i)
-  no_register_next e y = (rw (← no_register_code n, ← y) (taken b t (allocation_says e)), omega arith)
+  pub allocation_next : (r : read.Option ℕ) → allocation_at s (at + 1) ≡ Some (r, i) → unwrap_or r 0 < 100000 → AllocationBehind s at (Some (unwrap_or r 100000, i))
+  unfolding allocated
+  allocation_next None e w = (rw (← no_register_code) (taken b t (allocation_says e)), omega arith)
+  allocation_next (Some r) e w = (rw (← register_code r w) (taken b t (allocation_says e)), omega (arith, w))

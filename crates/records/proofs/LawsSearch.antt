@@ -1,5 +1,6 @@
 -- A search through the first `count` elements of a list: what is left of them tells what all of them do.
-use mathlib.Core.Path.{◌≡◌, ◌∙◌}
+use mathlib.Core.Path.{◌≡◌, refl, ◌∙◌}
+use Rattle.std.specs.List.{list_any}
 use mathlib.Core.Bool.{Bool, true, false}
 use mathlib.Core.List.{List, [], ◌∷◌}
 use Prim.Native.Nat.{ℕ, zero, suc, ◌+◌, ◌≤◌, ◌<◌}
@@ -39,3 +40,9 @@ any_each [] count h test d e i p = absurd (omega arith)
 any_each (x ∷ xs) zero h test d e i p = absurd (omega arith)
 any_each (x ∷ xs) (suc count) h test d e zero p = or_left (test x) _ e
 any_each (x ∷ xs) (suc count) h test d e (suc i) p = any_each xs count (omega arith) test d (or_right (test x) _ e) i (omega arith)
+
+-- the library's search
+pub any_list : {A : Type 0} (test : A → Bool) (l : List A) → list_any test l ≡ any test l
+unfolding any
+any_list test [] = refl
+any_list test (x ∷ l) = rw (any_list test l)

@@ -18,15 +18,14 @@ use Rattle.fields.specs.Fields.{fields_behind}
 use Rattle.loaded.specs.declared.Counts.{Counts}
 use Rattle.records.specs.declared.Place.{Place}
 use Rattle.records.specs.declared.Breach.{Breach}
-use Rattle.records.specs.declared.Judged.{Judged}
-use Rattle.records.specs.declared.Judged.TheVariants.{Passes, Breaks}
+use Rattle.std.specs.Prelude.{Ok, Err}
+use Rattle.std.specs.Result.{IsErrAnd}
+use Rattle.std.specs.declared.result.Result.{Result}
 use Rattle.records.specs.Records.{holding, judged_of, good, bad, told_by, told, Placed, Ends, Counted, Least, Paired, InPlace, PairWithin}
 use Rattle.loaded.specs.Filling.{FunctionWithin, BlockWithin}
-use Rattle.records.specs.Parts.{NumbersRead, ExactlyRead}
-use Rattle.records.specs.declared.Form.TheVariants.{Good, Bad}
+use Rattle.records.specs.Parts.{few_numbers, NumbersKept, exactly, ExactlyKept}
 use Rattle.records.specs.declared.Numbers.{Numbers}
-use Rattle.records.specs.declared.Exactly.{Exactly}
-use Rattle.records.proofs.LawsNumbers.{numbers_good, numbers_bad, exactly_good, exactly_bad, typed_exactly, pair_exactly, function_exactly, block_few}
+use Rattle.records.proofs.LawsNumbers.{typed_exactly, pair_exactly, function_exactly, block_few}
 use Rattle.records.proofs.LawsSearch.{any_each}
 
 -- what was tested
@@ -79,28 +78,28 @@ as_tested {so} {r} {place} {beyond} t =
 
 -- what was judged
 
-module _ (o : Option ℕ) {j : Judged} (e : j ≡ judged_of o) where
-  judged_none : j ≡ Passes → o ≡ none
+module _ (o : Option ℕ) {j : Result (Unit {0}) Breach} (e : j ≡ judged_of o) where
+  judged_none : j ≡ Ok tt → o ≡ none
   unfolding judged_of
   judged_none p = go o (sym e ∙ p)
     where
-      go : (o : Option ℕ) → judged_of o ≡ Passes → o ≡ none
+      go : (o : Option ℕ) → judged_of o ≡ Ok tt → o ≡ none
       go none f = refl
       go (some n) f = absurd (let z : ◌≡◌ {A = ℕ} 0 1 = cc in omega arith)
 
-  judged_some : {breach : Breach} → j ≡ Breaks breach → o ≡ some breach.number
+  judged_some : {breach : Breach} → j ≡ Err breach → o ≡ some breach.number
   unfolding judged_of
   judged_some {breach} p = go o (sym e ∙ p)
     where
-      go : (o : Option ℕ) → judged_of o ≡ Breaks breach → o ≡ some breach.number
+      go : (o : Option ℕ) → judged_of o ≡ Err breach → o ≡ some breach.number
       go none f = absurd (let z : ◌≡◌ {A = ℕ} 0 1 = cc in omega arith)
       go (some n) f = let z : ◌≡◌ {A = Breach} (record { number = n }) breach = cc in ap (λ (b : Breach). some b.number) z
 
-pub clear_of : {place : Place} {beyond disorder elsewhere differ : Bool} {j : Judged} → j ≡ judged_of (first_holding (holding place beyond disorder elsewhere differ))
-    → j ≡ Passes → Clear place beyond disorder elsewhere differ
+pub clear_of : {place : Place} {beyond disorder elsewhere differ : Bool} {j : Result (Unit {0}) Breach} → j ≡ judged_of (first_holding (holding place beyond disorder elsewhere differ))
+    → j ≡ Ok tt → Clear place beyond disorder elsewhere differ
 clear_of {place} {beyond} {disorder} {elsewhere} {differ} e p = none_holding place beyond disorder elsewhere differ (judged_none _ e p)
 
-pub judged_by : {so : Option Sheet} {r : Record} {place : Place} {beyond disorder elsewhere differ : Bool} {j : Judged} → Tested so r place beyond disorder elsewhere differ
+pub judged_by : {so : Option Sheet} {r : Record} {place : Place} {beyond disorder elsewhere differ : Bool} {j : Result (Unit {0}) Breach} → Tested so r place beyond disorder elsewhere differ
     → j ≡ judged_of (first_holding (holding place beyond disorder elsewhere differ)) → j ≡ judged_of (first_holding (conditions so r))
 judged_by t e = e ∙ ap judged_of (as_tested t)
 
@@ -110,14 +109,19 @@ pub ill_formed : {read : Option Record} (so : Option Sheet) (end : ℕ) → read
 unfolding told
 ill_formed so end e = rw e
 
-module _ (so : Option Sheet) {read : Option Record} {r : Record} (says : read ≡ some r) {j : Judged} (e : j ≡ judged_of (first_holding (conditions so r))) where
-  pub breaks : {breach : Breach} (end : ℕ) → j ≡ Breaks breach → bad breach ≡ told so end read
+module _ (so : Option Sheet) {read : Option Record} {r : Record} (says : read ≡ some r) {j : Result (Unit {0}) Breach} (e : j ≡ judged_of (first_holding (conditions so r))) where
+  pub breaks : {breach : Breach} (end : ℕ) → j ≡ Err breach → bad breach ≡ told so end read
   unfolding told told_by
   breaks end p = rw (says, judged_some _ e p)
 
-  pub passes : {next end : ℕ} → j ≡ Passes → next ≡ end → good r next ≡ told so end read
+  pub passes : {next end : ℕ} → j ≡ Ok tt → next ≡ end → good r next ≡ told so end read
   unfolding told told_by
   passes p n = rw (says, judged_none _ e p, n)
+
+-- what a line function hands on of `lowest`
+pub handed_on : {T : Type 0} {breach : Breach} (r : Result T Breach) → IsErrAnd r (λ b. b ≡ breach) → r ≡ Err breach
+handed_on (Ok x) e = elim e [ ]
+handed_on (Err b) e = ap Err e
 
 pub in_place : {s : Bytes} {at next : ℕ} {place : Place} {beyond disorder elsewhere differ : Bool} → Ends s at next → Clear place beyond disorder elsewhere differ
     → InPlace s place next
@@ -161,13 +165,13 @@ module _ {so : Option Sheet} {place : Place} where
   }
 
 -- `F` of five numbers, `T` of one, a step of two
-module _ {s : Bytes} {at : ℕ} {r : Exactly} where
-  pub function_says : {after : ℕ} → ExactlyRead s at 5 r → r.form ≡ Good after
+module _ {s : Bytes} {at : ℕ} {r : Numbers} where
+  pub function_says : ExactlyKept s at 5 r
       → function_of (fields_behind s at) ≡ some (function_record (get_or r.values 0 0) (get_or r.values 1 0) (get_or r.values 2 0) (get_or r.values 3 0) (get_or r.values 4 0))
-  function_says w e =
+  function_says w =
       function_exactly (fields_behind s at)
       ∙ rw (
-        (exactly_good w e).0,
+        w.says,
         get_or-take 5 r.values 0 0 (omega arith),
         get_or-take 5 r.values 1 0 (omega arith),
         get_or-take 5 r.values 2 0 (omega arith),
@@ -175,31 +179,31 @@ module _ {s : Bytes} {at : ℕ} {r : Exactly} where
         get_or-take 5 r.values 4 0 (omega arith),
       )
 
-  pub function_bad : ExactlyRead s at 5 r → r.form ≡ Bad → function_of (fields_behind s at) ≡ none
-  function_bad w e = function_exactly (fields_behind s at) ∙ rw (exactly_bad w e)
+  pub typed_says : ExactlyKept s at 1 r → typed_of (fields_behind s at) ≡ some (typed_record (get_or r.values 0 0))
+  typed_says w = typed_exactly (fields_behind s at) ∙ rw (w.says, get_or-take 1 r.values 0 0 (omega arith))
 
-  pub typed_says : {after : ℕ} → ExactlyRead s at 1 r → r.form ≡ Good after → typed_of (fields_behind s at) ≡ some (typed_record (get_or r.values 0 0))
-  typed_says w e = typed_exactly (fields_behind s at) ∙ rw ((exactly_good w e).0, get_or-take 1 r.values 0 0 (omega arith))
-
-  pub typed_bad : ExactlyRead s at 1 r → r.form ≡ Bad → typed_of (fields_behind s at) ≡ none
-  typed_bad w e = typed_exactly (fields_behind s at) ∙ rw (exactly_bad w e)
-
-  pub pair_says : (step : ℕ → ℕ → Step) {after : ℕ} → ExactlyRead s at 2 r → r.form ≡ Good after
+  pub pair_says : (step : ℕ → ℕ → Step) → ExactlyKept s at 2 r
       → two_numbers_of step (fields_behind s at) ≡ some (step_record (step (get_or r.values 0 0) (get_or r.values 1 0)))
-  pair_says step w e =
+  pair_says step w =
       pair_exactly step (fields_behind s at)
-      ∙ rw ((exactly_good w e).0, get_or-take 2 r.values 0 0 (omega arith), get_or-take 2 r.values 1 0 (omega arith))
+      ∙ rw (w.says, get_or-take 2 r.values 0 0 (omega arith), get_or-take 2 r.values 1 0 (omega arith))
 
-  pub pair_bad : (step : ℕ → ℕ → Step) → ExactlyRead s at 2 r → r.form ≡ Bad → two_numbers_of step (fields_behind s at) ≡ none
-  pair_bad step w e = pair_exactly step (fields_behind s at) ∙ rw (exactly_bad w e)
+  -- `B` of at most eight
+  pub block_says : NumbersKept s at r → block_of (fields_behind s at) ≡ some (block_record (take r.count r.values))
+  block_says w = block_few (fields_behind s at) ∙ rw w.says
 
--- `B` of at most eight
-module _ {s : Bytes} {at : ℕ} {r : Numbers} (w : NumbersRead s at r) where
-  pub block_says : {after : ℕ} → r.form ≡ Good after → block_of (fields_behind s at) ≡ some (block_record (take r.count r.values))
-  block_says e = block_few (fields_behind s at) ∙ rw (numbers_good w e).0
+module _ (s : Bytes) (at : ℕ) where
+  pub function_bad : exactly 5 (fields_behind s at) ≡ none → function_of (fields_behind s at) ≡ none
+  function_bad e = function_exactly (fields_behind s at) ∙ rw e
 
-  pub block_bad : r.form ≡ Bad → block_of (fields_behind s at) ≡ none
-  block_bad e = block_few (fields_behind s at) ∙ rw (numbers_bad w e)
+  pub typed_bad : exactly 1 (fields_behind s at) ≡ none → typed_of (fields_behind s at) ≡ none
+  typed_bad e = typed_exactly (fields_behind s at) ∙ rw e
+
+  pub pair_bad : (step : ℕ → ℕ → Step) → exactly 2 (fields_behind s at) ≡ none → two_numbers_of step (fields_behind s at) ≡ none
+  pair_bad step e = pair_exactly step (fields_behind s at) ∙ rw e
+
+  pub block_bad : few_numbers (fields_behind s at) ≡ none → block_of (fields_behind s at) ≡ none
+  block_bad e = block_few (fields_behind s at) ∙ rw e
 
 pub function_within : (S : Sheet) (regs slots vregs blocks entry : ℕ) {b : Bool} → b ≡ beyond_limit S (function_record regs slots vregs blocks entry) → b ≡ false
     → FunctionWithin regs slots vregs blocks entry

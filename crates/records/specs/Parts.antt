@@ -1,6 +1,8 @@
 -- What the functions behind the lines tell: of lists of numbers, of groups of operands and the words they are packed in, of slots,
 -- and of the fields of a `C`.
-use Rattle.std.specs.Prelude.{◌≡◌, Bool, false, cond, not, ◌&&◌, ◌||◌, List, [], ◌∷◌, ℕ, zero, suc, ◌+◌, ◌-◌, ◌*◌, ◌^◌, ◌≤◌, ◌<◌, eqb, leb, ltb, length, get_or, take}
+use Rattle.std.specs.Prelude.{◌≡◌, Bool, false, cond, not, ◌&&◌, ◌||◌, List, [], ◌∷◌, ℕ, zero, suc, ◌+◌, ◌-◌, ◌*◌, ◌^◌, ◌≤◌, ◌<◌, eqb, leb, ltb, length, get_or, take, Some, None, Ok, Err}
+use Rattle.std.specs.declared.option.Option as read
+use Rattle.std.specs.declared.result.Result.{Result}
 use Rattle.std.proofs.Math.Option.{Option, none, some, map}
 use Rattle.paper.specs.Text.{Bytes, number_of}
 use Rattle.paper.specs.Sheet.{Operand, change, Sheet}
@@ -10,20 +12,11 @@ use Rattle.fields.specs.Fields.{line_end, fields_behind}
 use Rattle.lists.specs.Bits.{set_bits}
 use Rattle.loaded.specs.declared.Counts.{Counts}
 use Rattle.records.specs.declared.Place.{Place}
-use Rattle.records.specs.declared.Judged.{Judged}
-use Rattle.records.specs.declared.Judged.TheVariants as judged
-use Rattle.records.specs.declared.Form.{Form}
-use Rattle.records.specs.declared.Form.TheVariants as form
+use Rattle.records.specs.declared.Breach.{Breach}
 use Rattle.records.specs.declared.Numbers.{Numbers}
-use Rattle.records.specs.declared.Exactly.{Exactly}
 use Rattle.records.specs.declared.Change.{Change}
-use Rattle.records.specs.declared.Change.TheVariants as fields_of
 use Rattle.records.specs.declared.Operands.{Operands}
 use Rattle.records.specs.declared.Listed.{Listed}
-use Rattle.records.specs.declared.Slots.{Slots}
-use Rattle.records.specs.declared.Slots.TheVariants as slots_of
-use Rattle.records.specs.declared.TwoNumbers as TwoNumbers
-use Rattle.records.specs.declared.TwoNumbers.TheVariants as pair
 use Rattle.records.specs.Records.{Behind, Ends, name_of_code, register_of_code}
 
 -- a sheet of which only the counts are known
@@ -37,28 +30,30 @@ counted counts =
 unfoldable pub few_numbers : List Bytes → Option (List ℕ)
 few_numbers fs = numbers_of fs >>= λ ns. cond (leb (length ns) max_succs) (some ns) none
 
--- the first `count` of the values are the numbers behind `at`, or there is no list of at most 8
-abbrev pub NumbersForm : Bytes → ℕ → (count : ℕ) → List ℕ → Form → Type 0
-NumbersForm s at count values (form.Good next) = (few_numbers (fields_behind s at) ≡ some (take count values)) × Ends s at next
-NumbersForm s at count values form.Bad = few_numbers (fields_behind s at) ≡ none
-
-pub record NumbersRead (s : Bytes) (at : ℕ) (r : Numbers) : Type 0 where
+-- the first `count` of the values are the numbers behind `at`, to the line's end
+pub record NumbersKept (s : Bytes) (at : ℕ) (r : Numbers) : Type 0 where
+  pub says : few_numbers (fields_behind s at) ≡ some (take r.count r.values)
   pub room : length r.values ≡ max_succs
   pub few : r.count ≤ max_succs
-  pub told : NumbersForm s at r.count r.values r.form
+  pub ends : Ends s at r.next
+
+abbrev pub NumbersRead : Bytes → ℕ → read.Option Numbers → Type 0
+NumbersRead s at (Some r) = NumbersKept s at r
+NumbersRead s at None = few_numbers (fields_behind s at) ≡ none
 
 -- the numbers of the fields, where there are `n` and no more
 unfoldable pub exactly : ℕ → List Bytes → Option (List ℕ)
 exactly zero fs = ended fs []
 exactly (suc n) fs = next number_of fs >>= λ x. map (λ ns. x.value ∷ ns) (exactly n x.rest)
 
-abbrev pub ExactlyForm : Bytes → ℕ → (n : ℕ) → List ℕ → Form → Type 0
-ExactlyForm s at n values (form.Good next) = (exactly n (fields_behind s at) ≡ some (take n values)) × Ends s at next
-ExactlyForm s at n values form.Bad = exactly n (fields_behind s at) ≡ none
-
-pub record ExactlyRead (s : Bytes) (at n : ℕ) (r : Exactly) : Type 0 where
+pub record ExactlyKept (s : Bytes) (at n : ℕ) (r : Numbers) : Type 0 where
+  pub says : exactly n (fields_behind s at) ≡ some (take n r.values)
   pub room : length r.values ≡ max_succs
-  pub told : ExactlyForm s at n r.values r.form
+  pub ends : Ends s at r.next
+
+abbrev pub ExactlyRead : Bytes → (at n : ℕ) → read.Option Numbers → Type 0
+ExactlyRead s at n (Some r) = ExactlyKept s at n r
+ExactlyRead s at n None = exactly n (fields_behind s at) ≡ none
 
 -- operands
 
@@ -75,9 +70,9 @@ pub record NextOperand (s : Bytes) (at : ℕ) (u : Operand) (after : ℕ) : Type
   pub further : at < after
   pub line : line_end s after ≡ line_end s at
 
-abbrev pub OperandBehind : Bytes → ℕ → TwoNumbers.TwoNumbers → Type 0
-OperandBehind s at pair.Bad = (n : ℕ) → operands_of (suc n) (fields_behind s at) ≡ none
-OperandBehind s at (pair.Value n r after) = NextOperand s at (operand_of_codes n r) after × (n < 200000)
+abbrev pub OperandBehind : Bytes → ℕ → read.Option (ℕ × ℕ × ℕ) → Type 0
+OperandBehind s at None = (n : ℕ) → operands_of (suc n) (fields_behind s at) ≡ none
+OperandBehind s at (Some x) = NextOperand s at (operand_of_codes x.0 x.1) x.2 × (x.0 < 200000)
 
 unfoldable pub operands_of_codes : List ℕ → List ℕ → List Operand
 operands_of_codes [] registers = []
@@ -107,9 +102,9 @@ pub record GroupRead (s : Bytes) (at : ℕ) (g : Operands) (after : ℕ) : Type 
   pub behind : Behind s after
   pub line : line_end s after ≡ line_end s at
 
-abbrev pub OperandsRead : Bytes → ℕ → Operands → Form → Type 0
-OperandsRead s at g (form.Good next) = GroupRead s at g next
-OperandsRead s at g form.Bad = counted_operands_of (fields_behind s at) ≡ none
+abbrev pub OperandsRead : Bytes → ℕ → read.Option (Operands × ℕ) → Type 0
+OperandsRead s at (Some x) = GroupRead s at x.0 x.1
+OperandsRead s at None = counted_operands_of (fields_behind s at) ≡ none
 
 -- 5 for a group: more than 8 operands, or one beyond its limit
 unfoldable pub group_over : Counts → Operands → Bool
@@ -123,9 +118,9 @@ pub record Unbroken (counts : Counts) (place : Place) (inst : ℕ) (uses defs : 
   pub uses_within : group_over counts uses ≡ false
   pub defs_within : group_over counts defs ≡ false
 
-abbrev pub OperationWithin : Counts → Place → ℕ → Operands → Operands → Judged → Type 0
-OperationWithin counts place inst uses defs judged.Passes = Unbroken counts place inst uses defs
-OperationWithin counts place inst uses defs (judged.Breaks breach) = Unit {0}
+abbrev pub OperationWithin : Counts → Place → ℕ → Operands → Operands → Result (Unit {0}) Breach → Type 0
+OperationWithin counts place inst uses defs (Ok passes) = Unbroken counts place inst uses defs
+OperationWithin counts place inst uses defs (Err breach) = Unit {0}
 
 -- those of the numbers that are below the limit
 unfoldable pub below : ℕ → List ℕ → List ℕ
@@ -179,12 +174,15 @@ pub record SlotsListed (s : Bytes) (at slots after : ℕ) (l : Listed) : Type 0 
   pub listing : Listing slots listed_slots l
   pub ends : Ends s at after
 
-abbrev pub SlotsRead : Bytes → ℕ → ℕ → Slots → Type 0
-SlotsRead s at slots (slots_of.Value l after) = SlotsListed s at slots after l
-SlotsRead s at slots slots_of.Bad = numbers_of (fields_behind s at) ≡ none
+abbrev pub SlotsRead : Bytes → ℕ → ℕ → read.Option (Listed × ℕ) → Type 0
+SlotsRead s at slots (Some x) = SlotsListed s at slots x.1 x.0
+SlotsRead s at slots None = numbers_of (fields_behind s at) ≡ none
 
 -- `C`'s fields behind `at`
-abbrev pub ChangeRead : Bytes → ℕ → Change → Type 0
-ChangeRead s at (fields_of.Value inst slot from to after) =
-    (change_of (fields_behind s at) ≡ some (step_record (change inst slot (name_of_code from) (name_of_code to)))) × Ends s at after
-ChangeRead s at fields_of.Bad = change_of (fields_behind s at) ≡ none
+pub record ChangeKept (s : Bytes) (at : ℕ) (r : Change) : Type 0 where
+  pub says : change_of (fields_behind s at) ≡ some (step_record (change r.inst r.slot (name_of_code r.from) (name_of_code r.to)))
+  pub ends : Ends s at r.next
+
+abbrev pub ChangeRead : Bytes → ℕ → read.Option Change → Type 0
+ChangeRead s at (Some r) = ChangeKept s at r
+ChangeRead s at None = change_of (fields_behind s at) ≡ none

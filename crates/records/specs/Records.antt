@@ -1,6 +1,8 @@
 -- One line of a sheet, at a place of the text: what is told of it, and what it is held against. A place here is one where a field
 -- ends, and the fields that are left of the line stand behind it.
-use Rattle.std.specs.Prelude.{◌≡◌, Bool, true, false, cond, not, ◌||◌, List, [], ◌∷◌, ◌++◌, ℕ, ◌+◌, ◌-◌, ◌^◌, ◌≤◌, ◌<◌, eqb, leb, ltb, length, get_or, take}
+use Rattle.std.specs.Prelude.{◌≡◌, Bool, true, false, cond, not, ◌||◌, List, [], ◌∷◌, ◌++◌, ℕ, ◌+◌, ◌-◌, ◌^◌, ◌≤◌, ◌<◌, eqb, leb, ltb, length, get_or, take, Some, None, Ok, Err}
+use Rattle.std.specs.declared.option.Option as read
+use Rattle.std.specs.declared.result.Result.{Result}
 use Rattle.std.proofs.Math.Option.{Option, none, some}
 use Rattle.paper.specs.Text.{Bytes, line_feed, number_of, Name, real, virtual, name_of}
 use Rattle.paper.specs.Sheet.{Step, change, operation, safepoint, Sheet, listed}
@@ -8,8 +10,6 @@ use Rattle.paper.specs.Limits.{max_regs, max_slots, max_vregs, max_blocks, max_i
 use Rattle.paper.specs.Refusals.{Record, function_record, typed_record, block_record, step_record, next, allocation_of, out_of_place, real_elsewhere, types_differ, step_beyond, step_out_of_order, step_too_many, ascending, so_far_of, Condition, first_holding, conditions}
 use Rattle.layout.specs.Layout.{defs_from}
 use Rattle.fields.specs.Fields.{ends_field, field_end, line_end, fields_behind}
-use Rattle.fields.specs.declared.Number as Number
-use Rattle.fields.specs.declared.Number.TheVariants as number
 use Rattle.lists.specs.Bits.{set_bits}
 use Rattle.cells.specs.Packed.{name_of_word}
 use Rattle.loaded.specs.Actions.{operands}
@@ -17,24 +17,13 @@ use Rattle.loaded.specs.Filling.{FunctionWithin, BlockWithin, GroupWithin}
 use Rattle.loaded.specs.declared.Counts.{Counts}
 use Rattle.records.specs.declared.Place.{Place}
 use Rattle.records.specs.declared.Breach.{Breach}
-use Rattle.records.specs.declared.Judged.{Judged}
-use Rattle.records.specs.declared.Judged.TheVariants as judged
 use Rattle.records.specs.declared.FunctionLine.{FunctionLine}
-use Rattle.records.specs.declared.FunctionLine.TheVariants as function
 use Rattle.records.specs.declared.TypedLine.{TypedLine}
-use Rattle.records.specs.declared.TypedLine.TheVariants as typed
-use Rattle.records.specs.declared.BlockTold.{BlockTold}
-use Rattle.records.specs.declared.BlockTold.TheVariants as block
 use Rattle.records.specs.declared.BlockLine.{BlockLine}
 use Rattle.records.specs.declared.PairLine.{PairLine}
-use Rattle.records.specs.declared.PairLine.TheVariants as pair
 use Rattle.records.specs.declared.ChangeLine.{ChangeLine}
-use Rattle.records.specs.declared.ChangeLine.TheVariants as changes
-use Rattle.records.specs.declared.OperationTold.{OperationTold}
-use Rattle.records.specs.declared.OperationTold.TheVariants as operations
 use Rattle.records.specs.declared.OperationLine.{OperationLine}
 use Rattle.records.specs.declared.SafepointLine.{SafepointLine}
-use Rattle.records.specs.declared.SafepointLine.TheVariants as safepoints
 
 -- what a line breaks
 
@@ -49,9 +38,9 @@ holding place beyond disorder elsewhere differ =
     ∷ record { number = 9; holds = place.surplus }
     ∷ []
 
-unfoldable pub judged_of : Option ℕ → Judged
-judged_of none = judged.Passes
-judged_of (some number) = judged.Breaks (record { number = number })
+unfoldable pub judged_of : Option ℕ → Result (Unit {0}) Breach
+judged_of none = Ok tt
+judged_of (some number) = Err (record { number = number })
 
 -- what is told of a line
 
@@ -70,39 +59,33 @@ told so_far next none = bad (record { number = 3 })
 told so_far next (some r) = told_by r next (first_holding (conditions so_far r))
 
 -- the same by each line's own type
-unfoldable pub function_line : FunctionLine → Line
-function_line (function.Good regs slots vregs blocks entry next) = good (function_record regs slots vregs blocks entry) next
-function_line (function.Bad breach) = bad breach
+unfoldable pub function_line : Result FunctionLine Breach → Line
+function_line (Ok r) = good (function_record r.regs r.slots r.vregs r.blocks r.entry) r.next
+function_line (Err breach) = bad breach
 
-unfoldable pub typed_line : TypedLine → Line
-typed_line (typed.Good n next) = good (typed_record n) next
-typed_line (typed.Bad breach) = bad breach
+unfoldable pub typed_line : Result TypedLine Breach → Line
+typed_line (Ok r) = good (typed_record r.n) r.next
+typed_line (Err breach) = bad breach
 
-unfoldable pub block_told : List ℕ → BlockTold → Line
-block_told succs (block.Good count next) = good (block_record (take count succs)) next
-block_told succs (block.Bad breach) = bad breach
+unfoldable pub block_line : Result BlockLine Breach → Line
+block_line (Ok r) = good (block_record (take r.count r.succs)) r.next
+block_line (Err breach) = bad breach
 
-abbrev pub block_line : BlockLine → Line
-block_line r = block_told r.succs r.told
+unfoldable pub pair_line : (ℕ → ℕ → Step) → Result PairLine Breach → Line
+pair_line step (Ok r) = good (step_record (step r.a r.b)) r.next
+pair_line step (Err breach) = bad breach
 
-unfoldable pub pair_line : (ℕ → ℕ → Step) → PairLine → Line
-pair_line step (pair.Good a b next) = good (step_record (step a b)) next
-pair_line step (pair.Bad breach) = bad breach
+unfoldable pub change_line : Result ChangeLine Breach → Line
+change_line (Ok r) = good (step_record (change r.inst r.slot (name_of_word r.from) (name_of_word r.to))) r.next
+change_line (Err breach) = bad breach
 
-unfoldable pub change_line : ChangeLine → Line
-change_line (changes.Good inst slot from to next) = good (step_record (change inst slot (name_of_word from) (name_of_word to))) next
-change_line (changes.Bad breach) = bad breach
+unfoldable pub operation_line : Result OperationLine Breach → Line
+operation_line (Ok r) = good (step_record (operation r.inst (operands 0 r.n r.operands) (operands defs_from r.m r.operands))) r.next
+operation_line (Err breach) = bad breach
 
-unfoldable pub operation_told : List ℕ → OperationTold → Line
-operation_told words (operations.Good inst n m next) = good (step_record (operation inst (operands 0 n words) (operands defs_from m words))) next
-operation_told words (operations.Bad breach) = bad breach
-
-abbrev pub operation_line : OperationLine → Line
-operation_line r = operation_told r.operands r.told
-
-unfoldable pub safepoint_line : SafepointLine → Line
-safepoint_line (safepoints.Good inst mask next) = good (step_record (safepoint inst (set_bits mask))) next
-safepoint_line (safepoints.Bad breach) = bad breach
+unfoldable pub safepoint_line : Result SafepointLine Breach → Line
+safepoint_line (Ok r) = good (step_record (safepoint r.inst (set_bits r.mask))) r.next
+safepoint_line (Err breach) = bad breach
 
 -- places
 
@@ -129,9 +112,9 @@ pub record Next {A : Type 0} (read : Bytes → Option A) (s : Bytes) (at : ℕ) 
   pub behind : Behind s after
   pub line : line_end s after ≡ line_end s at
 
-abbrev pub NumberBehind : Bytes → ℕ → Number.Number → Type 0
-NumberBehind s at number.Bad = next number_of (fields_behind s at) ≡ none
-NumberBehind s at (number.Value v after) = Next number_of s at v after × (v < 100000)
+abbrev pub NumberBehind : Bytes → ℕ → read.Option (ℕ × ℕ) → Type 0
+NumberBehind s at None = next number_of (fields_behind s at) ≡ none
+NumberBehind s at (Some x) = Next number_of s at x.0 x.1 × (x.0 < 100000)
 
 -- a name and an allocation of at most five digits in one number each: from 100,000 on a real name, and no register
 unfoldable pub name_of_code : ℕ → Name
@@ -140,13 +123,13 @@ name_of_code c = cond (ltb c 100000) (virtual c) (real (c - 100000))
 unfoldable pub register_of_code : ℕ → Option ℕ
 register_of_code c = cond (ltb c 100000) (some c) none
 
-abbrev pub NameBehind : Bytes → ℕ → Number.Number → Type 0
-NameBehind s at number.Bad = next name_of (fields_behind s at) ≡ none
-NameBehind s at (number.Value c after) = Next name_of s at (name_of_code c) after × (c < 200000)
+abbrev pub NameBehind : Bytes → ℕ → read.Option (ℕ × ℕ) → Type 0
+NameBehind s at None = next name_of (fields_behind s at) ≡ none
+NameBehind s at (Some x) = Next name_of s at (name_of_code x.0) x.1 × (x.0 < 200000)
 
-abbrev pub AllocationBehind : Bytes → ℕ → Number.Number → Type 0
-AllocationBehind s at number.Bad = next allocation_of (fields_behind s at) ≡ none
-AllocationBehind s at (number.Value c after) = Next allocation_of s at (register_of_code c) after × (c ≤ 100000)
+abbrev pub AllocationBehind : Bytes → ℕ → read.Option (ℕ × ℕ) → Type 0
+AllocationBehind s at None = next allocation_of (fields_behind s at) ≡ none
+AllocationBehind s at (Some x) = Next allocation_of s at (register_of_code x.0) x.1 × (x.0 ≤ 100000)
 
 -- what a line is held against
 
@@ -209,35 +192,35 @@ pub record SafepointWithin (slots inst mask : ℕ) : Type 0 where
   pub inst_most : inst ≤ max_inst
   pub mask_below : mask < 2 ^ slots
 
-abbrev pub FunctionClear : Bytes → Place → FunctionLine → Type 0
-FunctionClear s place (function.Good regs slots vregs blocks entry next) = InPlace s place next × FunctionWithin regs slots vregs blocks entry
-FunctionClear s place (function.Bad breach) = Unit {0}
+abbrev pub FunctionClear : Bytes → Place → Result FunctionLine Breach → Type 0
+FunctionClear s place (Ok r) = InPlace s place r.next × FunctionWithin r.regs r.slots r.vregs r.blocks r.entry
+FunctionClear s place (Err breach) = Unit {0}
 
-abbrev pub TypedClear : Bytes → Place → (vregs least : ℕ) → TypedLine → Type 0
-TypedClear s place vregs least (typed.Good n next) = InPlace s place next × TypedWithin vregs least n
-TypedClear s place vregs least (typed.Bad breach) = Unit {0}
+abbrev pub TypedClear : Bytes → Place → (vregs least : ℕ) → Result TypedLine Breach → Type 0
+TypedClear s place vregs least (Ok r) = InPlace s place r.next × TypedWithin vregs least r.n
+TypedClear s place vregs least (Err breach) = Unit {0}
 
-abbrev pub BlockClear : Bytes → Place → (blocks : ℕ) → List ℕ → BlockTold → Type 0
-BlockClear s place blocks succs (block.Good count next) = InPlace s place next × BlockWithin blocks count succs
-BlockClear s place blocks succs (block.Bad breach) = Unit {0}
+abbrev pub BlockClear : Bytes → Place → (blocks : ℕ) → Result BlockLine Breach → Type 0
+BlockClear s place blocks (Ok r) = InPlace s place r.next × BlockWithin blocks r.count r.succs
+BlockClear s place blocks (Err breach) = Unit {0}
 
-abbrev pub PairClear : Bytes → Place → (first second : ℕ) → PairLine → Type 0
-PairClear s place first second (pair.Good a b next) = InPlace s place next × PairWithin first second a b
-PairClear s place first second (pair.Bad breach) = Unit {0}
+abbrev pub PairClear : Bytes → Place → (first second : ℕ) → Result PairLine Breach → Type 0
+PairClear s place first second (Ok r) = InPlace s place r.next × PairWithin first second r.a r.b
+PairClear s place first second (Err breach) = Unit {0}
 
-abbrev pub ChangeClear : Bytes → Place → (slots : ℕ) → ChangeLine → Type 0
-ChangeClear s place slots (changes.Good inst slot from to next) = InPlace s place next × ChangeWithin slots inst slot from to
-ChangeClear s place slots (changes.Bad breach) = Unit {0}
+abbrev pub ChangeClear : Bytes → Place → (slots : ℕ) → Result ChangeLine Breach → Type 0
+ChangeClear s place slots (Ok r) = InPlace s place r.next × ChangeWithin slots r.inst r.slot r.from r.to
+ChangeClear s place slots (Err breach) = Unit {0}
 
 -- the two groups of an operation
 pub record GroupsWithin (counts : Counts) (typed words : List ℕ) (n m : ℕ) : Type 0 where
   pub uses_within : (S : Sheet) → Counted S counts → TypedBy S typed → GroupWithin S counts.regs 0 n words
   pub defs_within : (S : Sheet) → Counted S counts → TypedBy S typed → GroupWithin S counts.regs defs_from m words
 
-abbrev pub OperationClear : Bytes → Place → Counts → (typed words : List ℕ) → OperationTold → Type 0
-OperationClear s place counts typed words (operations.Good inst n m next) = InPlace s place next × GroupsWithin counts typed words n m
-OperationClear s place counts typed words (operations.Bad breach) = Unit {0}
+abbrev pub OperationClear : Bytes → Place → Counts → (typed : List ℕ) → Result OperationLine Breach → Type 0
+OperationClear s place counts typed (Ok r) = InPlace s place r.next × GroupsWithin counts typed r.operands r.n r.m
+OperationClear s place counts typed (Err breach) = Unit {0}
 
-abbrev pub SafepointClear : Bytes → Place → (slots : ℕ) → SafepointLine → Type 0
-SafepointClear s place slots (safepoints.Good inst mask next) = InPlace s place next × SafepointWithin slots inst mask
-SafepointClear s place slots (safepoints.Bad breach) = Unit {0}
+abbrev pub SafepointClear : Bytes → Place → (slots : ℕ) → Result SafepointLine Breach → Type 0
+SafepointClear s place slots (Ok r) = InPlace s place r.next × SafepointWithin slots r.inst r.mask
+SafepointClear s place slots (Err breach) = Unit {0}

@@ -4,6 +4,7 @@
 #![tactic(auto)]
 
 ghost use Rattle.std.specs.Prelude.{◌≡◌, List, [], ◌∷◌, ◌++◌, ℕ, ◌+◌, ◌^◌, ◌≤◌, ◌<◌, eqb, leb, length, get_or, take, drop};
+ghost use Rattle.std.specs.List.{list_any};
 ghost use Rattle.std.proofs.Math.Option.{Option, none, some};
 ghost use Rattle.std.proofs.Math.Decide.{ℕ_discrete};
 ghost use Rattle.lists.specs.Over.{over};
@@ -16,7 +17,7 @@ ghost use Rattle.records.specs.Records.{holding, judged_of, told, function_line,
 ghost use Rattle.records.specs.Parts.{NumbersRead, ExactlyRead, operand_of_codes, OperandBehind, held, Roomy, OperandsKept, OperandsRead, group_over, OperationWithin, below, name_word, register_word, mark_word, is_typed, word, Small, Listing, SlotsRead, counted, ChangeRead};
 
 use cells::MARK;
-use fields::{Allocation, Name, Number};
+use fields::Name;
 use layout::{DEFS_FROM, MAX_OPERANDS, MAX_SUCCS, OPERAND_WORDS};
 use loaded::{Counts, NO_REGISTER, REGISTER};
 use paper::{
@@ -57,134 +58,85 @@ pub struct Breach {
     pub number: u8,
 }
 
-// A well-formed line held against the conditions.
+// What a good line of `F`, `T`, `B`, of two numbers, `C`, `O` or `P` says, and the place of its line feed.
 #[derive(Clone, Copy)]
-pub enum Judged {
-    Passes,
-    Breaks(Breach),
-}
-
-// A line of `F`, `T`, of two numbers, `C` or `P`: what it says and the place of its line feed, or what it breaks.
-#[derive(Clone, Copy)]
-pub enum FunctionLine {
-    Good {
-        regs: u32,
-        slots: u32,
-        vregs: u32,
-        blocks: u32,
-        entry: u32,
-        next: usize,
-    },
-    Bad(Breach),
+pub struct FunctionLine {
+    pub regs: u32,
+    pub slots: u32,
+    pub vregs: u32,
+    pub blocks: u32,
+    pub entry: u32,
+    pub next: usize,
 }
 
 #[derive(Clone, Copy)]
-pub enum TypedLine {
-    Good { n: u32, next: usize },
-    Bad(Breach),
+pub struct TypedLine {
+    pub n: u32,
+    pub next: usize,
 }
 
-#[derive(Clone, Copy)]
-pub enum PairLine {
-    Good { a: u32, b: u32, next: usize },
-    Bad(Breach),
-}
-
-#[derive(Clone, Copy)]
-pub enum ChangeLine {
-    Good {
-        inst: u16,
-        slot: u32,
-        from: u16,
-        to: u16,
-        next: usize,
-    },
-    Bad(Breach),
-}
-
-#[derive(Clone, Copy)]
-pub enum SafepointLine {
-    Good { inst: u16, mask: u32, next: usize },
-    Bad(Breach),
-}
-
-// A line of `B` or `O`, whose list stands beside it: as much of the list counts as a good line says.
-#[derive(Clone, Copy)]
-pub enum BlockTold {
-    Good { count: usize, next: usize },
-    Bad(Breach),
-}
-
+// As many of the successors count as `count` says.
 #[derive(Clone, Copy)]
 pub struct BlockLine {
-    pub told: BlockTold,
+    pub count: usize,
+    pub next: usize,
     pub succs: [u32; MAX_SUCCS],
 }
 
 #[derive(Clone, Copy)]
-pub enum OperationTold {
-    Good {
-        inst: u16,
-        n: usize,
-        m: usize,
-        next: usize,
-    },
-    Bad(Breach),
+pub struct PairLine {
+    pub a: u32,
+    pub b: u32,
+    pub next: usize,
 }
 
 #[derive(Clone, Copy)]
+pub struct ChangeLine {
+    pub inst: u16,
+    pub slot: u32,
+    pub from: u16,
+    pub to: u16,
+    pub next: usize,
+}
+
+// The words of `n` uses stand at 0, those of `m` defs at DEFS_FROM.
+#[derive(Clone, Copy)]
 pub struct OperationLine {
-    pub told: OperationTold,
+    pub inst: u16,
+    pub n: usize,
+    pub m: usize,
+    pub next: usize,
     pub operands: [u16; OPERAND_WORDS],
 }
 
-// The form of what was read: good, up to a place, or bad.
 #[derive(Clone, Copy)]
-pub enum Form {
-    Good(usize),
-    Bad,
+pub struct SafepointLine {
+    pub inst: u16,
+    pub mask: u32,
+    pub next: usize,
 }
 
-// The numbers that are left of a line. The form is bad where a field is no number or a ninth stands there; the count is then that
-// of the numbers before it.
+// The numbers that are left of a line, at most 8, and the place of the line feed.
 #[derive(Clone, Copy)]
 pub struct Numbers {
-    pub form: Form,
     pub count: usize,
     pub values: [u32; MAX_SUCCS],
-}
-
-// As many numbers as a line must have: its form is bad where there are fewer or more.
-#[derive(Clone, Copy)]
-pub struct Exactly {
-    pub form: Form,
-    pub values: [u32; MAX_SUCCS],
-}
-
-// An operand's name and its allocation, and the place behind them.
-#[derive(Clone, Copy)]
-pub enum TwoNumbers {
-    Value(u32, u32, usize),
-    Bad,
+    pub next: usize,
 }
 
 // The fields of a `C`: its numbers, its names in one number each, and the place of the line feed.
 #[derive(Clone, Copy)]
-pub enum Change {
-    Value {
-        inst: u32,
-        slot: u32,
-        from: u32,
-        to: u32,
-        next: usize,
-    },
-    Bad,
+pub struct Change {
+    pub inst: u32,
+    pub slot: u32,
+    pub from: u32,
+    pub to: u32,
+    pub next: usize,
 }
 
-// A group of operands, `n (name reg)*n`: its form, how many there are, and the first 8.
+// A group of operands, `n (name reg)*n`: how many there are, and the first 8.
 #[derive(Clone, Copy)]
 pub struct Operands {
-    pub form: Form,
     pub count: usize,
     pub names: [u32; MAX_OPERANDS],
     pub registers: [u32; MAX_OPERANDS],
@@ -199,62 +151,52 @@ pub struct Listed {
     pub least: u32,
 }
 
-// The slots of a `P`: what they come to, and the place of the line feed.
-#[derive(Clone, Copy)]
-pub enum Slots {
-    Value(Listed, usize),
-    Bad,
-}
-
-// The next field of the line, as a number.
-pub fn number_behind(s: &[u8], at: usize) -> Number
+// The next field of the line, as a number, and the place behind it.
+pub fn number_behind(s: &[u8], at: usize) -> Option<(u32, usize)>
     requires { Behind s.now at }
     ensures { NumberBehind s.now at result }
 {
     if s[at] != b'\t' {
-        return Number::Bad;
+        return None;
     }
     fields::read_number(s, at + 1)
 }
 
 // The next field as a name in one number: that of a virtual name, and 100,000 more for a real one.
-pub fn name_behind(s: &[u8], at: usize) -> Number
+pub fn name_behind(s: &[u8], at: usize) -> Option<(u32, usize)>
     requires { Behind s.now at }
     ensures { NameBehind s.now at result }
 {
     if s[at] != b'\t' {
-        return Number::Bad;
+        return None;
     }
-    let Name::Value(real, n, next) = fields::read_name(s, at + 1) else {
-        return Number::Bad;
-    };
-    if real {
-        Number::Value(REAL + n, next)
-    } else {
-        Number::Value(n, next)
+    let (name, next) = fields::read_name(s, at + 1)?;
+    match name {
+        Name::Real(n) => Some((REAL + n, next)),
+        Name::Virtual(n) => Some((n, next)),
     }
 }
 
 // The next field as an allocation in one number: the register's, or 100,000 for none.
-pub fn allocation_behind(s: &[u8], at: usize) -> Number
+pub fn allocation_behind(s: &[u8], at: usize) -> Option<(u32, usize)>
     requires { Behind s.now at }
     ensures { AllocationBehind s.now at result }
 {
     if s[at] != b'\t' {
-        return Number::Bad;
+        return None;
     }
-    let Allocation::Value(given, r, next) = fields::read_allocation(s, at + 1) else {
-        return Number::Bad;
-    };
-    if given {
-        Number::Value(r, next)
-    } else {
-        Number::Value(NO_ALLOCATION, next)
-    }
+    let (register, next) = fields::read_allocation(s, at + 1)?;
+    Some((register.unwrap_or(NO_ALLOCATION), next))
 }
 
 // The one place where a well-formed line gets its number: document 01's order.
-fn lowest(place: Place, beyond: bool, disorder: bool, elsewhere: bool, differ: bool) -> Judged
+fn lowest(
+    place: Place,
+    beyond: bool,
+    disorder: bool,
+    elsewhere: bool,
+    differ: bool,
+) -> Result<(), Breach>
     ensures { result ≡ judged_of (first_holding (holding place beyond disorder elsewhere differ)) }
 {
     let number = if place.misplaced {
@@ -270,13 +212,14 @@ fn lowest(place: Place, beyond: bool, disorder: bool, elsewhere: bool, differ: b
     } else if place.surplus {
         STEP_TOO_MANY
     } else {
-        return Judged::Passes;
+        return Ok(());
     };
-    Judged::Breaks(Breach { number })
+    Err(Breach { number })
 }
 
-// All that is left of a line, as at most 8 numbers.
-fn read_numbers(s: &[u8], at: usize) -> Numbers
+// All that is left of a line, as at most 8 numbers, and the place of the line feed; none where a field is no number or a ninth
+// stands there.
+fn read_numbers(s: &[u8], at: usize) -> Option<Numbers>
     requires { Behind s.now at }
     ensures { NumbersRead s.now at result }
 {
@@ -284,46 +227,28 @@ fn read_numbers(s: &[u8], at: usize) -> Numbers
     let mut count: usize = 0;
     let mut i = at;
     while s[i] != b'\n' {
-        let Number::Value(v, next) = number_behind(s, i) else {
-            return Numbers {
-                form: Form::Bad,
-                count,
-                values,
-            };
-        };
+        let (v, next) = number_behind(s, i)?;
         if count == MAX_SUCCS {
-            return Numbers {
-                form: Form::Bad,
-                count,
-                values,
-            };
+            return None;
         }
         values[count] = v;
         count += 1;
         i = next;
     }
-    Numbers {
-        form: Form::Good(i),
+    Some(Numbers {
         count,
         values,
-    }
+        next: i,
+    })
 }
 
 // All that is left of a line, as `n` numbers.
-fn read_exactly(s: &[u8], at: usize, n: usize) -> Exactly
+fn read_exactly(s: &[u8], at: usize, n: usize) -> Option<Numbers>
     requires { Behind s.now at × (n ≤ max_succs) }
     ensures { ExactlyRead s.now at n result }
 {
-    let read = read_numbers(s, at);
-    let values = read.values;
-    if read.count != n {
-        return Exactly {
-            form: Form::Bad,
-            values,
-        };
-    }
-    let form = read.form;
-    Exactly { form, values }
+    let read = read_numbers(s, at)?;
+    if read.count == n { Some(read) } else { None }
 }
 
 // Is one of `F`'s values beyond its limit?
@@ -335,31 +260,21 @@ fn function_beyond(regs: u32, slots: u32, vregs: u32, blocks: u32, entry: u32) -
             | ((MAX_VREGS < vregs) | ((MAX_BLOCKS < blocks) | ((blocks == 0) | (blocks <= entry)))))
 }
 
-// Is one of the first `count` numbers at the limit or beyond it?
-fn any_beyond(values: [u32; MAX_SUCCS], count: usize, limit: u32) -> bool
-    requires { count ≤ max_succs }
-    ensures { result ≡ any (leb limit) (take count values) }
+// Is one of the numbers at the limit or beyond it?
+fn any_beyond(values: &[u32], limit: u32) -> bool
+    ensures { result ≡ list_any (leb limit) values.now }
 {
-    let mut i = 0;
-    while i < count {
-        if limit <= values[i] {
-            return true;
-        }
-        i += 1;
-    }
-    false
+    values.iter().any(|&value| limit <= value)
 }
 
 // `F regs slots vregs blocks entry`.
-pub fn function_line(s: &[u8], at: usize, place: Place) -> FunctionLine
+pub fn function_line(s: &[u8], at: usize, place: Place) -> Result<FunctionLine, Breach>
     requires { Behind s.now at }
     ensures result_value { (so : Option Sheet) → ((a b c d e : ℕ) → Placed so (function_record a b c d e) place) → function_line result ≡ told so (line_end s.now at) (function_of (fields_behind s.now at)) }
     ensures clear { FunctionClear s.now place result }
 {
-    let read = read_exactly(s, at, 5);
-    let form = read.form;
-    let Form::Good(next) = form else {
-        return FunctionLine::Bad(Breach { number: ILL_FORMED });
+    let Some(read) = read_exactly(s, at, 5) else {
+        return Err(Breach { number: ILL_FORMED });
     };
     let v = read.values;
     let regs = v[0];
@@ -368,84 +283,81 @@ pub fn function_line(s: &[u8], at: usize, place: Place) -> FunctionLine
     let blocks = v[3];
     let entry = v[4];
     let beyond = function_beyond(regs, slots, vregs, blocks, entry);
-    let judged = lowest(place, beyond, false, false, false);
-    match judged {
-        Judged::Breaks(breach) => FunctionLine::Bad(breach),
-        Judged::Passes => FunctionLine::Good {
-            regs,
-            slots,
-            vregs,
-            blocks,
-            entry,
-            next,
-        },
-    }
+    lowest(place, beyond, false, false, false)?;
+    Ok(FunctionLine {
+        regs,
+        slots,
+        vregs,
+        blocks,
+        entry,
+        next: read.next,
+    })
 }
 
 // `T n`, with `least` the least number that may come next.
-pub fn typed_line(s: &[u8], at: usize, place: Place, counts: Counts, least: u32) -> TypedLine
+pub fn typed_line(
+    s: &[u8],
+    at: usize,
+    place: Place,
+    counts: Counts,
+    least: u32,
+) -> Result<TypedLine, Breach>
     requires { Behind s.now at }
     ensures by_index { (so : Option Sheet) → ((n : ℕ) → Placed so (typed_record n) place) → Counted (so_far_of so) counts → Least (so_far_of so) least → typed_line result ≡ told so (line_end s.now at) (typed_of (fields_behind s.now at)) }
     ensures clear { TypedClear s.now place counts.vregs least result }
 {
-    let read = read_exactly(s, at, 1);
-    let form = read.form;
-    let Form::Good(next) = form else {
-        return TypedLine::Bad(Breach { number: ILL_FORMED });
+    let Some(read) = read_exactly(s, at, 1) else {
+        return Err(Breach { number: ILL_FORMED });
     };
     let v = read.values;
     let n = v[0];
-    let judged = lowest(place, counts.vregs <= n, n < least, false, false);
-    match judged {
-        Judged::Breaks(breach) => TypedLine::Bad(breach),
-        Judged::Passes => TypedLine::Good { n, next },
-    }
+    lowest(place, counts.vregs <= n, n < least, false, false)?;
+    Ok(TypedLine { n, next: read.next })
 }
 
 // `B succ..`; a ninth successor is a field too many.
-pub fn block_line(s: &[u8], at: usize, place: Place, counts: Counts) -> BlockLine
+pub fn block_line(s: &[u8], at: usize, place: Place, counts: Counts) -> Result<BlockLine, Breach>
     requires { Behind s.now at }
     ensures by_index { (so : Option Sheet) → ((ns : List ℕ) → Placed so (block_record ns) place) → Counted (so_far_of so) counts → block_line result ≡ told so (line_end s.now at) (block_of (fields_behind s.now at)) }
-    ensures clear { BlockClear s.now place counts.blocks result.succs result.told }
+    ensures clear { BlockClear s.now place counts.blocks result }
 {
-    let read = read_numbers(s, at);
-    let count = read.count;
+    let Some(read) = read_numbers(s, at) else {
+        return Err(Breach { number: ILL_FORMED });
+    };
     let succs = read.values;
-    let form = read.form;
-    let Form::Good(next) = form else {
-        return BlockLine {
-            told: BlockTold::Bad(Breach { number: ILL_FORMED }),
-            succs,
-        };
-    };
-    let beyond = any_beyond(succs, count, counts.blocks);
-    let judged = lowest(place, beyond, false, false, false);
-    let told = match judged {
-        Judged::Breaks(breach) => BlockTold::Bad(breach),
-        Judged::Passes => BlockTold::Good { count, next },
-    };
-    BlockLine { told, succs }
+    let beyond = any_beyond(&succs[..read.count], counts.blocks);
+    lowest(place, beyond, false, false, false)?;
+    Ok(BlockLine {
+        count: read.count,
+        next: read.next,
+        succs,
+    })
 }
 
 // `S slot reg`, `L reg slot` and `M into from`, each with its two limits.
-pub fn pair_line(s: &[u8], at: usize, place: Place, first: u32, second: u32) -> PairLine
+pub fn pair_line(
+    s: &[u8],
+    at: usize,
+    place: Place,
+    first: u32,
+    second: u32,
+) -> Result<PairLine, Breach>
     requires { Behind s.now at }
     ensures result_value { (so : Option Sheet) (step : ℕ → ℕ → Step) → ((x : Step) → Placed so (step_record x) place) → Paired (so_far_of so) step first second → pair_line step result ≡ told so (line_end s.now at) (two_numbers_of step (fields_behind s.now at)) }
     ensures clear { PairClear s.now place first second result }
 {
-    let read = read_exactly(s, at, 2);
-    let form = read.form;
-    let Form::Good(next) = form else {
-        return PairLine::Bad(Breach { number: ILL_FORMED });
+    let Some(read) = read_exactly(s, at, 2) else {
+        return Err(Breach { number: ILL_FORMED });
     };
     let v = read.values;
     let a = v[0];
     let b = v[1];
-    let judged = lowest(place, (first <= a) | (second <= b), false, false, false);
-    match judged {
-        Judged::Breaks(breach) => PairLine::Bad(breach),
-        Judged::Passes => PairLine::Good { a, b, next },
-    }
+    lowest(place, (first <= a) | (second <= b), false, false, false)?;
+    Ok(PairLine {
+        a,
+        b,
+        next: read.next,
+    })
 }
 
 // Is the name's number beyond `F`'s count?
@@ -484,120 +396,89 @@ fn name_word(name: u32) -> u16
 }
 
 // The fields of a `C`, to the line's end.
-fn read_change(s: &[u8], at: usize) -> Change
+fn read_change(s: &[u8], at: usize) -> Option<Change>
     requires { Behind s.now at }
     ensures { ChangeRead s.now at result }
 {
-    let Number::Value(inst, a) = number_behind(s, at) else {
-        return Change::Bad;
-    };
-    let Number::Value(slot, b) = number_behind(s, a) else {
-        return Change::Bad;
-    };
-    let Number::Value(from, c) = name_behind(s, b) else {
-        return Change::Bad;
-    };
-    let Number::Value(to, next) = name_behind(s, c) else {
-        return Change::Bad;
-    };
+    let (inst, a) = number_behind(s, at)?;
+    let (slot, b) = number_behind(s, a)?;
+    let (from, c) = name_behind(s, b)?;
+    let (to, next) = name_behind(s, c)?;
     if s[next] != b'\n' {
-        return Change::Bad;
+        return None;
     }
-    Change::Value {
+    Some(Change {
         inst,
         slot,
         from,
         to,
         next,
-    }
+    })
 }
 
 // `C inst slot from to`: the names come in nine bits each.
-pub fn change_line(s: &[u8], at: usize, place: Place, counts: Counts, typed: &[u16]) -> ChangeLine
+pub fn change_line(
+    s: &[u8],
+    at: usize,
+    place: Place,
+    counts: Counts,
+    typed: &[u16],
+) -> Result<ChangeLine, Breach>
     requires { Behind s.now at × (length typed.now ≡ typed_words) × CountsWithin counts }
     ensures result_value { (so : Option Sheet) → ((x : Step) → Placed so (step_record x) place) → Counted (so_far_of so) counts → TypedBy (so_far_of so) typed.now → change_line result ≡ told so (line_end s.now at) (change_of (fields_behind s.now at)) }
     ensures clear { ChangeClear s.now place counts.slots result }
 {
-    let read = read_change(s, at);
-    let Change::Value {
-        inst,
-        slot,
-        from,
-        to,
-        next,
-    } = read
-    else {
-        return ChangeLine::Bad(Breach { number: ILL_FORMED });
+    let Some(read) = read_change(s, at) else {
+        return Err(Breach { number: ILL_FORMED });
     };
-    let beyond = (MAX_INST < inst)
-        | ((counts.slots <= slot) | (name_beyond(from, counts) | name_beyond(to, counts)));
+    let from = read.from;
+    let to = read.to;
+    let beyond = (MAX_INST < read.inst)
+        | ((counts.slots <= read.slot) | (name_beyond(from, counts) | name_beyond(to, counts)));
     let differ = is_typed(typed, from) != is_typed(typed, to);
-    let judged = lowest(place, beyond, false, false, differ);
-    match judged {
-        Judged::Breaks(breach) => ChangeLine::Bad(breach),
-        Judged::Passes => ChangeLine::Good {
-            inst: inst as u16,
-            slot,
-            from: name_word(from),
-            to: name_word(to),
-            next,
-        },
-    }
+    lowest(place, beyond, false, false, differ)?;
+    Ok(ChangeLine {
+        inst: read.inst as u16,
+        slot: read.slot,
+        from: name_word(from),
+        to: name_word(to),
+        next: read.next,
+    })
 }
 
 // The next two fields of the line, as a name and its allocation.
-fn operand_behind(s: &[u8], at: usize) -> TwoNumbers
+fn operand_behind(s: &[u8], at: usize) -> Option<(u32, u32, usize)>
     requires { Behind s.now at }
     ensures { OperandBehind s.now at result }
 {
-    let Number::Value(name, next) = name_behind(s, at) else {
-        return TwoNumbers::Bad;
-    };
-    let Number::Value(register, end) = allocation_behind(s, next) else {
-        return TwoNumbers::Bad;
-    };
-    TwoNumbers::Value(name, register, end)
+    let (name, next) = name_behind(s, at)?;
+    let (register, end) = allocation_behind(s, next)?;
+    Some((name, register, end))
 }
 
-// A group of operands: the form of all is read, and the first 8 are kept.
-fn read_operands(s: &[u8], at: usize) -> Operands
+// A group of operands, and the place behind it: the form of all is read, and the first 8 are kept.
+fn read_operands(s: &[u8], at: usize) -> Option<(Operands, usize)>
     requires { Behind s.now at }
-    ensures { OperandsRead s.now at result result.form }
+    ensures { OperandsRead s.now at result }
 {
+    let (n, first) = number_behind(s, at)?;
     let mut names = [0u32; MAX_OPERANDS];
     let mut registers = [0u32; MAX_OPERANDS];
-    let mut count: usize = 0;
-    let Number::Value(n, first) = number_behind(s, at) else {
-        return Operands {
-            form: Form::Bad,
-            count,
-            names,
-            registers,
-        };
-    };
     let mut i = first;
-    while count < n as usize {
-        let TwoNumbers::Value(name, register, next) = operand_behind(s, i) else {
-            return Operands {
-                form: Form::Bad,
-                count,
-                names,
-                registers,
-            };
-        };
+    for count in 0..n as usize {
+        let (name, register, next) = operand_behind(s, i)?;
         if count < MAX_OPERANDS {
             names[count] = name;
             registers[count] = register;
         }
-        count += 1;
         i = next;
     }
-    Operands {
-        form: Form::Good(i),
-        count,
+    let group = Operands {
+        count: n as usize,
         names,
         registers,
-    }
+    };
+    Some((group, i))
 }
 
 // Are there more than 8 operands, or is a name or a register of one beyond its limit?
@@ -609,12 +490,10 @@ fn group_beyond(g: Operands, counts: Counts) -> bool
     if MAX_OPERANDS < count {
         return true;
     }
-    let mut i = 0;
-    while i < count {
+    for i in 0..count {
         if operand_beyond(g.names[i], g.registers[i], counts) {
             return true;
         }
-        i += 1;
     }
     false
 }
@@ -625,35 +504,14 @@ fn operand_beyond(name: u32, register: u32, counts: Counts) -> bool
     name_beyond(name, counts) | ((register < NO_ALLOCATION) & (counts.regs <= register))
 }
 
-// Is the code one of those from `from` on, up to `count`?
-fn appears(codes: [u32; MAX_OPERANDS], from: usize, count: usize, code: u32) -> bool
-    requires { count ≤ max_operands }
-    ensures { result ≡ any (eqb code) (drop from (take count codes)) }
+// Does a code below the limit stand twice?
+fn repeated(codes: &[u32], limit: u32) -> bool
+    ensures { result ≡ repeats ℕ_discrete (below limit codes.now) }
 {
-    let mut i = from;
-    while i < count {
-        if code == codes[i] {
+    for (i, &code) in codes.iter().enumerate() {
+        if (code < limit) && codes[i + 1..].contains(&code) {
             return true;
         }
-        i += 1;
-    }
-    false
-}
-
-// Does a code below the limit stand twice among the first `count`?
-fn repeated(codes: [u32; MAX_OPERANDS], count: usize, limit: u32) -> bool
-    requires { count ≤ max_operands }
-    ensures { result ≡ repeats ℕ_discrete (below limit (take count codes)) }
-{
-    let mut i = 0;
-    while i < count {
-        let code = codes[i];
-        if code < limit {
-            if appears(codes, i + 1, count, code) {
-                return true;
-            }
-        }
-        i += 1;
     }
     false
 }
@@ -663,13 +521,10 @@ fn any_elsewhere(g: Operands) -> bool
     requires { Roomy g × (g.count ≤ max_operands) }
     ensures { result ≡ any (λ u. elsewhere u.name u.reg) (held g) }
 {
-    let count = g.count;
-    let mut i = 0;
-    while i < count {
+    for i in 0..g.count {
         if is_elsewhere(g.names[i], g.registers[i]) {
             return true;
         }
-        i += 1;
     }
     false
 }
@@ -694,7 +549,7 @@ fn judge_operation(
     defs: Operands,
     counts: Counts,
     place: Place,
-) -> Judged
+) -> Result<(), Breach>
     requires { Roomy uses × Roomy defs }
     ensures value { (so : Option Sheet) (us : List Operand) (ds : List Operand) → ((x : Step) → Placed so (step_record x) place) → Counted (so_far_of so) counts → OperandsKept us uses → OperandsKept ds defs → result ≡ judged_of (first_holding (conditions so (step_record (operation inst us ds)))) }
     ensures clear { OperationWithin counts place inst uses defs result }
@@ -703,11 +558,11 @@ fn judge_operation(
     if beyond {
         return lowest(place, beyond, false, false, false);
     }
-    let used = uses.names;
-    let defined = defs.names;
-    let registers = defs.registers;
-    let disorder = repeated(used, uses.count, NAMES)
-        | (repeated(defined, defs.count, NAMES) | repeated(registers, defs.count, NO_ALLOCATION));
+    let used = &uses.names[..uses.count];
+    let defined = &defs.names[..defs.count];
+    let registers = &defs.registers[..defs.count];
+    let disorder = repeated(used, NAMES)
+        | (repeated(defined, NAMES) | repeated(registers, NO_ALLOCATION));
     let elsewhere = any_elsewhere(uses) | any_elsewhere(defs);
     lowest(place, beyond, disorder, elsewhere, false)
 }
@@ -749,11 +604,8 @@ fn pack(
     ensures { result ≡ over from g.count (λ k x. word typed.now (get_or g.names k 0) (get_or g.registers k 0)) words }
 {
     let mut out = words;
-    let count = g.count;
-    let mut i = 0;
-    while i < count {
+    for i in 0..g.count {
         out[from + i] = operand_word(g.names[i], g.registers[i], typed);
-        i += 1;
     }
     out
 }
@@ -765,48 +617,32 @@ pub fn operation_line(
     place: Place,
     counts: Counts,
     typed: &[u16],
-) -> OperationLine
+) -> Result<OperationLine, Breach>
     requires { Behind s.now at × (length typed.now ≡ typed_words) × CountsWithin counts }
     ensures result_value { (so : Option Sheet) → ((x : Step) → Placed so (step_record x) place) → Counted (so_far_of so) counts → operation_line result ≡ told so (line_end s.now at) (operation_of (fields_behind s.now at)) }
-    ensures clear { OperationClear s.now place counts typed.now result.operands result.told }
+    ensures clear { OperationClear s.now place counts typed.now result }
 {
-    let operands = [0u16; OPERAND_WORDS];
-    let ill_formed = OperationLine {
-        told: OperationTold::Bad(Breach { number: ILL_FORMED }),
-        operands,
+    let Some((inst, first)) = number_behind(s, at) else {
+        return Err(Breach { number: ILL_FORMED });
     };
-    let Number::Value(inst, first) = number_behind(s, at) else {
-        return ill_formed;
+    let Some((uses, middle)) = read_operands(s, first) else {
+        return Err(Breach { number: ILL_FORMED });
     };
-    let uses = read_operands(s, first);
-    let uses_form = uses.form;
-    let Form::Good(middle) = uses_form else {
-        return ill_formed;
-    };
-    let defs = read_operands(s, middle);
-    let defs_form = defs.form;
-    let Form::Good(next) = defs_form else {
-        return ill_formed;
+    let Some((defs, next)) = read_operands(s, middle) else {
+        return Err(Breach { number: ILL_FORMED });
     };
     if s[next] != b'\n' {
-        return ill_formed;
+        return Err(Breach { number: ILL_FORMED });
     }
-    let judged = judge_operation(inst, uses, defs, counts, place);
-    match judged {
-        Judged::Breaks(breach) => OperationLine {
-            told: OperationTold::Bad(breach),
-            operands,
-        },
-        Judged::Passes => OperationLine {
-            told: OperationTold::Good {
-                inst: inst as u16,
-                n: uses.count,
-                m: defs.count,
-                next,
-            },
-            operands: pack(pack(operands, 0, uses, typed), DEFS_FROM, defs, typed),
-        },
-    }
+    judge_operation(inst, uses, defs, counts, place)?;
+    let words = pack([0u16; OPERAND_WORDS], 0, uses, typed);
+    Ok(OperationLine {
+        inst: inst as u16,
+        n: uses.count,
+        m: defs.count,
+        next,
+        operands: pack(words, DEFS_FROM, defs, typed),
+    })
 }
 
 // The slots with one more.
@@ -829,7 +665,7 @@ fn list_slot(listed: Listed, slot: u32, slots: u32) -> Listed
 }
 
 // All that is left of a `P`, as slots.
-fn read_slots(s: &[u8], at: usize, slots: u32) -> Slots
+fn read_slots(s: &[u8], at: usize, slots: u32) -> Option<(Listed, usize)>
     requires { Behind s.now at × (slots ≤ max_slots) }
     ensures { SlotsRead s.now at slots result }
 {
@@ -841,36 +677,35 @@ fn read_slots(s: &[u8], at: usize, slots: u32) -> Slots
     };
     let mut i = at;
     while s[i] != b'\n' {
-        let Number::Value(slot, next) = number_behind(s, i) else {
-            return Slots::Bad;
-        };
+        let (slot, next) = number_behind(s, i)?;
         listed = list_slot(listed, slot, slots);
         i = next;
     }
-    Slots::Value(listed, i)
+    Some((listed, i))
 }
 
 // `P inst slot..`: the mask has a bit for each slot listed.
-pub fn safepoint_line(s: &[u8], at: usize, place: Place, counts: Counts) -> SafepointLine
+pub fn safepoint_line(
+    s: &[u8],
+    at: usize,
+    place: Place,
+    counts: Counts,
+) -> Result<SafepointLine, Breach>
     requires { Behind s.now at × CountsWithin counts }
     ensures result_value { (so : Option Sheet) → ((x : Step) → Placed so (step_record x) place) → Counted (so_far_of so) counts → safepoint_line result ≡ told so (line_end s.now at) (safepoint_of (fields_behind s.now at)) }
     ensures clear { SafepointClear s.now place counts.slots result }
 {
-    let Number::Value(inst, first) = number_behind(s, at) else {
-        return SafepointLine::Bad(Breach { number: ILL_FORMED });
+    let Some((inst, first)) = number_behind(s, at) else {
+        return Err(Breach { number: ILL_FORMED });
     };
-    let slots = read_slots(s, first, counts.slots);
-    let Slots::Value(listed, next) = slots else {
-        return SafepointLine::Bad(Breach { number: ILL_FORMED });
+    let Some((listed, next)) = read_slots(s, first, counts.slots) else {
+        return Err(Breach { number: ILL_FORMED });
     };
     let beyond = (MAX_INST < inst) | listed.beyond;
-    let judged = lowest(place, beyond, listed.disorder, false, false);
-    match judged {
-        Judged::Breaks(breach) => SafepointLine::Bad(breach),
-        Judged::Passes => SafepointLine::Good {
-            inst: inst as u16,
-            mask: listed.mask,
-            next,
-        },
-    }
+    lowest(place, beyond, listed.disorder, false, false)?;
+    Ok(SafepointLine {
+        inst: inst as u16,
+        mask: listed.mask,
+        next,
+    })
 }

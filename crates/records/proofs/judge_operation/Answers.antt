@@ -8,32 +8,27 @@ use Rattle.records.proofs.judge_operation.Goals as goal
 pub returns-then-beyond : goal.returns-then-beyond
 returns-then-beyond c =
     let u = c.group_beyond.ensures in
-    let d = c.group_beyond-2.ensures in record { value = λ so us ds p h ku kd. judged_by (operation_beyond ku kd _ _ u d (p _) h c.if-beyond.true) c.lowest.ensures; clear = unbroken _ _ _ _ _ _ _ _ u d _ c.lowest.ensures }
+    let d = c.group_beyond-2.ensures in record {
+      value = λ so us ds p h ku kd. judged_by (operation_beyond ku kd _ _ u d (p _) h c.if-beyond.true) c.lowest.ensures;
+      clear = unbroken _ _ _ _ _ _ _ _ u d _ c.lowest.ensures;
+    }
 
-pub repeated-requires : goal.repeated-requires
-repeated-requires c = (group_few _ _
-    (sym c.group_beyond.ensures ∙ uses_pass c.args.inst _ c.group_beyond-2.result c.if-beyond.false))
+pub shared_ref_as_front-used : goal.shared_ref_as_front-used
+shared_ref_as_front-used c = group_few _ _ (sym c.group_beyond.ensures ∙ uses_pass c.args.inst _ c.group_beyond-2.result c.if-beyond.false)
 
-pub repeated-requires-2 : goal.repeated-requires-2
-repeated-requires-2 c = (group_few _ _
-    (sym c.group_beyond-2.ensures ∙ defs_pass c.args.inst c.group_beyond.result _ c.if-beyond.false))
-
-pub repeated-requires-3 : goal.repeated-requires-3
-repeated-requires-3 c = (group_few _ _
-    (sym c.group_beyond-2.ensures ∙ defs_pass c.args.inst c.group_beyond.result _ c.if-beyond.false))
+pub shared_ref_as_front-defined : goal.shared_ref_as_front-defined
+shared_ref_as_front-defined c = group_few _ _ (sym c.group_beyond-2.ensures ∙ defs_pass c.args.inst c.group_beyond.result _ c.if-beyond.false)
 
 pub any_elsewhere-requires : goal.any_elsewhere-requires
 any_elsewhere-requires c = (
   c.requires.0,
-  (group_few _ _
-      (sym c.group_beyond.ensures ∙ uses_pass c.args.inst _ c.group_beyond-2.result c.if-beyond.false)),
+  group_few _ _ (sym c.group_beyond.ensures ∙ uses_pass c.args.inst _ c.group_beyond-2.result c.if-beyond.false),
 )
 
 pub any_elsewhere-requires-2 : goal.any_elsewhere-requires-2
 any_elsewhere-requires-2 c = (
   c.requires.1,
-  (group_few _ _
-      (sym c.group_beyond-2.ensures ∙ defs_pass c.args.inst c.group_beyond.result _ c.if-beyond.false)),
+  group_few _ _ (sym c.group_beyond-2.ensures ∙ defs_pass c.args.inst c.group_beyond.result _ c.if-beyond.false),
 )
 
 pub returns : goal.returns

@@ -9,18 +9,17 @@ use Rattle.records.proofs.name_behind.Goals as goal
 pub returns-then-s-at-ne9 : goal.returns-then-s-at-ne9
 returns-then-s-at-ne9 c = no_field _ _ _ c.if-s-at-ne9.true
 
-pub returns-in_default : goal.returns-in_default
-returns-in_default c = refused _ _ c.if-s-at-ne9.false (name_refused (sym c.read_name.ensures.value ∙ c.in_default.is))
+pub returns-in_err-name : goal.returns-in_err-name
+returns-in_err-name c =
+    rw c.from_residual.ensures (refused _ _ c.if-s-at-ne9.false (name_refused (sym c.read_name.ensures.value ∙ c.in_err-name.was)))
 
 pub overflow_add-result : goal.overflow_add-result
-overflow_add-result c =
-    let w = rw c.in-Value.is at c.read_name.ensures.within in
-    omega (arith, w.small)
+overflow_add-result c = let w = rw c.in-Real.is at c.in_ok-name.ensures.within.small in omega (arith, w)
 
-pub returns-then-real : goal.returns-then-real
-returns-then-real c =
-    real_next c.requires c.if-s-at-ne9.false (sym c.read_name.ensures.value ∙ c.in-Value.is) (rw c.in-Value.is at c.read_name.ensures.within) c.if-real.true
+pub returns-in-Real : goal.returns-in-Real
+returns-in-Real c =
+    real_next c.requires c.if-s-at-ne9.false (rw c.in-Real.is at (sym c.in_ok-name.ensures.value)) (rw c.in-Real.is at c.in_ok-name.ensures.within.small)
 
-pub returns-else-real : goal.returns-else-real
-returns-else-real c =
-    virtual_next c.requires c.if-s-at-ne9.false (sym c.read_name.ensures.value ∙ c.in-Value.is) (rw c.in-Value.is at c.read_name.ensures.within) c.if-real.false
+pub returns-in-Virtual : goal.returns-in-Virtual
+returns-in-Virtual c =
+    virtual_next c.requires c.if-s-at-ne9.false (rw c.in-Virtual.is at (sym c.in_ok-name.ensures.value)) (rw c.in-Virtual.is at c.in_ok-name.ensures.within.small)

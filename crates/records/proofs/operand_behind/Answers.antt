@@ -2,19 +2,14 @@
 use Rattle.records.proofs.LawsOperands.{no_name, no_allocation, operand_taken}
 use Rattle.records.proofs.operand_behind.Goals as goal
 
-pub returns-in_default : goal.returns-in_default
-returns-in_default c = no_name _ _ (rw c.in_default.is at c.name_behind.ensures)
+pub returns-in_err-name : goal.returns-in_err-name
+returns-in_err-name c = rw c.from_residual.ensures (no_name _ _ c.in_err-name.ensures)
 
 pub allocation_behind-requires : goal.allocation_behind-requires
-allocation_behind-requires c = let w = rw c.in-Value.is at c.name_behind.ensures in w.0.behind
+allocation_behind-requires c = c.in_ok-name.ensures.0.behind
 
-pub returns-in_default-allocation_behind : goal.returns-in_default-allocation_behind
-returns-in_default-allocation_behind c =
-    let w = rw c.in-Value.is at c.name_behind.ensures in
-    no_allocation w.0 (rw c.in_default-allocation_behind.is at c.allocation_behind.ensures)
+pub returns-in_err-register : goal.returns-in_err-register
+returns-in_err-register c = rw c.from_residual-in_err-register.ensures (no_allocation c.in_ok-name.ensures.0 c.in_err-register.ensures)
 
 pub returns : goal.returns
-returns c =
-    let w = rw c.in-Value.is at c.name_behind.ensures in
-    let v = rw c.in-Value-allocation_behind.is at c.allocation_behind.ensures in
-    (operand_taken w.0 v.0, w.1)
+returns c = (operand_taken c.in_ok-name.ensures.0 c.in_ok-register.ensures.0, c.in_ok-name.ensures.1)

@@ -1,14 +1,9 @@
 -- `records::pack` meets its contract: from `from` on the words of the first `i` operands stand, one more each turn.
 use mathlib.Core.Path.{◌≡◌}
-use Prim.Native.Nat.{◌-◌, ◌≤◌}
 use lib.ListN.{length, get_or}
 use Rattle.lists.specs.Over.{over}
 use Rattle.records.specs.Parts.{word}
 use Rattle.records.proofs.pack.Given as goal
 
 abbrev pub invariant-loop-i : goal.invariant-loop-i
-invariant-loop-i l =
-    (l.i ≤ l.count) × (length l.out ≡ 16) × (l.out ≡ over l.from l.i (λ k x. word l.typed (get_or l.g.names k 0) (get_or l.g.registers k 0)) l.initial.out)
-
-abbrev pub decreases-loop-i : goal.decreases-loop-i
-decreases-loop-i l = l.count - l.i
+invariant-loop-i l = (length l.out ≡ 16) × (l.out ≡ over l.from l.i (λ k x. word l.typed (get_or l.g.names k 0) (get_or l.g.registers k 0)) l.initial.out)

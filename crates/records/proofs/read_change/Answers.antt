@@ -3,40 +3,35 @@
 use Rattle.records.proofs.LawsSteps.{change_no_inst, change_no_slot, change_no_from, change_no_to, change_too_long, change_says, change_ends}
 use Rattle.records.proofs.read_change.Goals as goal
 
-pub returns-in_default : goal.returns-in_default
-returns-in_default c = change_no_inst _ _ (rw c.in_default.is at c.number_behind.ensures)
+pub returns-in_err-inst : goal.returns-in_err-inst
+returns-in_err-inst c = rw c.from_residual.ensures (change_no_inst _ _ c.in_err-inst.ensures)
 
 pub number_behind-requires-2 : goal.number_behind-requires-2
-number_behind-requires-2 c = (rw c.in-Value.is at c.number_behind.ensures).0.behind
+number_behind-requires-2 c = c.in_ok-inst.ensures.0.behind
 
-pub returns-in_default-number_behind : goal.returns-in_default-number_behind
-returns-in_default-number_behind c =
-    change_no_slot (rw c.in-Value.is at c.number_behind.ensures).0 (rw c.in_default-number_behind.is at c.number_behind-2.ensures)
+pub returns-in_err-slot : goal.returns-in_err-slot
+returns-in_err-slot c = rw c.from_residual-in_err-slot.ensures (change_no_slot c.in_ok-inst.ensures.0 c.in_err-slot.ensures)
 
 pub name_behind-requires : goal.name_behind-requires
-name_behind-requires c = (rw c.in-Value-number_behind.is at c.number_behind-2.ensures).0.behind
+name_behind-requires c = c.in_ok-slot.ensures.0.behind
 
-pub returns-in_default-name_behind : goal.returns-in_default-name_behind
-returns-in_default-name_behind c =
-    change_no_from (rw c.in-Value.is at c.number_behind.ensures).0 (rw c.in-Value-number_behind.is at c.number_behind-2.ensures).0 (rw c.in_default-name_behind.is at c.name_behind.ensures)
+pub returns-in_err-from : goal.returns-in_err-from
+returns-in_err-from c = rw c.from_residual-in_err-from.ensures (change_no_from c.in_ok-inst.ensures.0 c.in_ok-slot.ensures.0 c.in_err-from.ensures)
 
 pub name_behind-requires-2 : goal.name_behind-requires-2
-name_behind-requires-2 c = (rw c.in-Value-name_behind.is at c.name_behind.ensures).0.behind
+name_behind-requires-2 c = c.in_ok-from.ensures.0.behind
 
-pub returns-in_default-name_behind-2 : goal.returns-in_default-name_behind-2
-returns-in_default-name_behind-2 c =
-    change_no_to (rw c.in-Value.is at c.number_behind.ensures).0 (rw c.in-Value-number_behind.is at c.number_behind-2.ensures).0 (rw c.in-Value-name_behind.is at c.name_behind.ensures).0 (rw c.in_default-name_behind-2.is at c.name_behind-2.ensures)
+pub returns-in_err-to : goal.returns-in_err-to
+returns-in_err-to c = rw c.from_residual-in_err-to.ensures (change_no_to c.in_ok-inst.ensures.0 c.in_ok-slot.ensures.0 c.in_ok-from.ensures.0 c.in_err-to.ensures)
 
 pub bounds-s-next : goal.bounds-s-next
-bounds-s-next c = (rw c.in-Value-name_behind-2.is at c.name_behind-2.ensures).0.behind.inside
+bounds-s-next c = c.in_ok-to.ensures.0.behind.inside
 
 pub returns-then-s-next-ne10 : goal.returns-then-s-next-ne10
-returns-then-s-next-ne10 c =
-    change_too_long (rw c.in-Value.is at c.number_behind.ensures).0 (rw c.in-Value-number_behind.is at c.number_behind-2.ensures).0 (rw c.in-Value-name_behind.is at c.name_behind.ensures).0 (rw c.in-Value-name_behind-2.is at c.name_behind-2.ensures).0 c.if-s-next-ne10.true
+returns-then-s-next-ne10 c = change_too_long c.in_ok-inst.ensures.0 c.in_ok-slot.ensures.0 c.in_ok-from.ensures.0 c.in_ok-to.ensures.0 c.if-s-next-ne10.true
 
 pub returns : goal.returns
-returns c =
-    let i = (rw c.in-Value.is at c.number_behind.ensures).0 in (
-      change_says i (rw c.in-Value-number_behind.is at c.number_behind-2.ensures).0 (rw c.in-Value-name_behind.is at c.name_behind.ensures).0 (rw c.in-Value-name_behind-2.is at c.name_behind-2.ensures).0 c.if-s-next-ne10.false,
-      change_ends i (rw c.in-Value-number_behind.is at c.number_behind-2.ensures).0 (rw c.in-Value-name_behind.is at c.name_behind.ensures).0 (rw c.in-Value-name_behind-2.is at c.name_behind-2.ensures).0 c.if-s-next-ne10.false,
-    )
+returns c = record {
+  says = change_says c.in_ok-inst.ensures.0 c.in_ok-slot.ensures.0 c.in_ok-from.ensures.0 c.in_ok-to.ensures.0 c.if-s-next-ne10.false;
+  ends = change_ends c.in_ok-inst.ensures.0 c.in_ok-slot.ensures.0 c.in_ok-from.ensures.0 c.in_ok-to.ensures.0 c.if-s-next-ne10.false;
+}

@@ -12,24 +12,17 @@ bounds-s-i c = c.loop-i.invariant.behind.inside
 pub number_behind-requires : goal.number_behind-requires
 number_behind-requires c = c.loop-i.invariant.behind
 
-pub returns-in_default : goal.returns-in_default
-returns-in_default c =
-    reading_bad c.loop-i.invariant c.loop-i-test.true (rw c.in_default.is at c.number_behind.ensures)
+pub returns-in_err-v : goal.returns-in_err-v
+returns-in_err-v c = rw c.from_residual.ensures (reading_bad c.loop-i.invariant c.loop-i-test.true c.in_err-v.ensures)
 
 pub returns-then-count-eq-MAX_SUCCS : goal.returns-then-count-eq-MAX_SUCCS
-returns-then-count-eq-MAX_SUCCS c =
-    let w = rw c.in-Value.is at c.number_behind.ensures in
-    reading_ninth c.loop-i.invariant w.0 c.if-count-eq-MAX_SUCCS.true
+returns-then-count-eq-MAX_SUCCS c = reading_ninth c.loop-i.invariant c.in_ok-v.ensures.0 c.if-count-eq-MAX_SUCCS.true
 
 pub loop-i-smaller : goal.loop-i-smaller
-loop-i-smaller c =
-    let w = rw c.in-Value.is at c.number_behind.ensures in
-    omega (arith, w.0.further, w.0.behind.inside)
+loop-i-smaller c = omega (arith, c.in_ok-v.ensures.0.further, c.in_ok-v.ensures.0.behind.inside)
 
 pub loop-i-preserved : goal.loop-i-preserved
-loop-i-preserved c =
-    let w = rw c.in-Value.is at c.number_behind.ensures in
-    reading_more c.loop-i.invariant w.0 c.if-count-eq-MAX_SUCCS.false
+loop-i-preserved c = reading_more c.loop-i.invariant c.in_ok-v.ensures.0 c.if-count-eq-MAX_SUCCS.false
 
 pub returns : goal.returns
 returns c = reading_done c.loop-i.invariant c.loop-i-test.false

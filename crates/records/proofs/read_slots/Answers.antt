@@ -11,23 +11,17 @@ bounds-s-i c = c.loop-i.invariant.behind.inside
 pub number_behind-requires : goal.number_behind-requires
 number_behind-requires c = c.loop-i.invariant.behind
 
-pub returns-in_default : goal.returns-in_default
-returns-in_default c =
-    slotting_bad c.loop-i.invariant c.loop-i-test.true (rw c.in_default.is at c.number_behind.ensures)
+pub returns-in_err-slot : goal.returns-in_err-slot
+returns-in_err-slot c = rw c.from_residual.ensures (slotting_bad c.loop-i.invariant c.loop-i-test.true c.in_err-slot.ensures)
 
 pub list_slot-listed-requires : goal.list_slot-listed-requires
-list_slot-listed-requires c =
-    (c.requires.1, c.loop-i.invariant.listing.room)
+list_slot-listed-requires c = (c.requires.1, c.loop-i.invariant.listing.room)
 
 pub loop-i-smaller : goal.loop-i-smaller
-loop-i-smaller c =
-    let w = rw c.in-Value.is at c.number_behind.ensures in
-    omega (arith, w.0.further, w.0.behind.inside)
+loop-i-smaller c = omega (arith, c.in_ok-slot.ensures.0.further, c.in_ok-slot.ensures.0.behind.inside)
 
 pub loop-i-preserved : goal.loop-i-preserved
-loop-i-preserved c =
-    let w = rw c.in-Value.is at c.number_behind.ensures in
-    slotting_more c.loop-i.invariant w.0 c.list_slot-listed.ensures
+loop-i-preserved c = slotting_more c.loop-i.invariant c.in_ok-slot.ensures.0 c.list_slot-listed.ensures
 
 pub returns : goal.returns
 returns c = slotting_done c.loop-i.invariant c.loop-i-test.false

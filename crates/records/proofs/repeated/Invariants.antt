@@ -1,15 +1,11 @@
 -- `records::repeated` meets its contract: the codes from `i` on tell whether one of all repeats: one below the limit is sought
--- behind its place, any other plays no part; one fewer is left each turn.
+-- behind its place, any other plays no part.
 use mathlib.Core.Path.{◌≡◌}
-use Prim.Native.Nat.{◌-◌}
 use native.Mathlib.Decide.{ℕ_discrete}
-use lib.ListN.{take, drop}
+use lib.ListN.{drop}
 use Rattle.paper.specs.Refusals.{repeats}
 use Rattle.records.specs.Parts.{below}
 use Rattle.records.proofs.repeated.Given as goal
 
 abbrev pub invariant-loop-i : goal.invariant-loop-i
-invariant-loop-i l = repeats ℕ_discrete (below l.limit (take l.count l.codes)) ≡ repeats ℕ_discrete (below l.limit (drop l.i (take l.count l.codes)))
-
-abbrev pub decreases-loop-i : goal.decreases-loop-i
-decreases-loop-i l = l.count - l.i
+invariant-loop-i l = repeats ℕ_discrete (below l.limit l.codes) ≡ repeats ℕ_discrete (below l.limit (drop l.i l.codes))

@@ -3,7 +3,7 @@
 use mathlib.Core.Path.{refl}
 use native.Mathlib.Omega.{arith}
 use Rattle.records.specs.Records.{safepoint_line}
-use Rattle.records.proofs.LawsTold.{clear_of, judged_by, ill_formed, breaks, passes, in_place}
+use Rattle.records.proofs.LawsTold.{clear_of, judged_by, ill_formed, breaks, passes, handed_on, in_place}
 use Rattle.records.proofs.LawsSteps.{safepoint_no_inst, safepoint_bad, safepoint_says, safepoint_ends, safepoint_tested, safepoint_bits, safepoint_within}
 use Rattle.records.proofs.safepoint_line.Goals as goal
 
@@ -12,27 +12,36 @@ number_behind-requires c = c.requires.0
 
 pub returns-in_default : goal.returns-in_default
 unfolding safepoint_line
-returns-in_default c = record { result_value = λ so p h. ill_formed so _ (safepoint_no_inst _ _ (rw c.in_default.is at c.number_behind.ensures)); clear = tt }
+returns-in_default c = record { result_value = λ so p h. ill_formed so _ (safepoint_no_inst _ _ c.in_default.ensures); clear = tt }
 
-pub read_slots-slots-requires : goal.read_slots-slots-requires
-read_slots-slots-requires c = ((rw c.in-Value.is at c.number_behind.ensures).0.behind, c.requires.1.slots)
+pub read_slots-requires : goal.read_slots-requires
+read_slots-requires c = (c.in-Some.ensures.0.behind, c.requires.1.slots)
 
-pub returns-in_default-slots : goal.returns-in_default-slots
+pub returns-in_default-read_slots : goal.returns-in_default-read_slots
 unfolding safepoint_line
-returns-in_default-slots c = record { result_value = λ so p h. ill_formed so _ (safepoint_bad (rw c.in-Value.is at c.number_behind.ensures).0 (rw c.in_default-slots.is at c.read_slots-slots.ensures)); clear = tt }
+returns-in_default-read_slots c = record { result_value = λ so p h. ill_formed so _ (safepoint_bad c.in-Some.ensures.0 c.in_default-read_slots.ensures); clear = tt }
 
 pub overflow_cast-result : goal.overflow_cast-result
 overflow_cast-result c =
-    omega (arith, (safepoint_within (rw c.in-Value.is at c.number_behind.ensures).0 (rw c.in-Value-slots.is at c.read_slots-slots.ensures) (clear_of c.lowest-judged.ensures c.in-Passes.is)).inst_most)
+    omega (arith, (safepoint_within c.in-Some.ensures.0 c.in-Some-read_slots.ensures (clear_of c.lowest.ensures c.in_ok-lowest.was)).inst_most)
 
-pub returns-in-Breaks : goal.returns-in-Breaks
+pub returns-in_err-lowest : goal.returns-in_err-lowest
 unfolding safepoint_line
-returns-in-Breaks c = record { result_value = λ so p h. breaks so (safepoint_says (rw c.in-Value.is at c.number_behind.ensures).0 (rw c.in-Value-slots.is at c.read_slots-slots.ensures)) (judged_by (safepoint_tested (rw c.in-Value.is at c.number_behind.ensures).0 (rw c.in-Value-slots.is at c.read_slots-slots.ensures) (p _) h refl) c.lowest-judged.ensures) _ c.in-Breaks.is; clear = tt }
+returns-in_err-lowest c =
+    let i = c.in-Some.ensures.0 in
+    let w = c.in-Some-read_slots.ensures in
+    rw (handed_on _ c.from_residual.ensures.1) (record {
+      result_value = λ so p h. breaks so (safepoint_says i w) (judged_by (safepoint_tested i w (p _) h refl) c.lowest.ensures) _ c.in_err-lowest.was;
+      clear = tt;
+    })
 
-pub returns-in-Passes : goal.returns-in-Passes
+pub returns : goal.returns
 unfolding safepoint_line
-returns-in-Passes c =
-    let i = (rw c.in-Value.is at c.number_behind.ensures).0 in
-    let z = c.in-Passes.is in
-    let clear = clear_of c.lowest-judged.ensures z in
-    let ends = safepoint_ends i (rw c.in-Value-slots.is at c.read_slots-slots.ensures) in record { result_value = λ so p h. rw (safepoint_bits i (rw c.in-Value-slots.is at c.read_slots-slots.ensures) clear) (passes so (safepoint_says i (rw c.in-Value-slots.is at c.read_slots-slots.ensures)) (judged_by (safepoint_tested (rw c.in-Value.is at c.number_behind.ensures).0 (rw c.in-Value-slots.is at c.read_slots-slots.ensures) (p _) h refl) c.lowest-judged.ensures) z ends.place); clear = (in_place ends clear, safepoint_within i (rw c.in-Value-slots.is at c.read_slots-slots.ensures) clear) }
+returns c =
+    let i = c.in-Some.ensures.0 in
+    let w = c.in-Some-read_slots.ensures in
+    let clear = clear_of c.lowest.ensures c.in_ok-lowest.was in
+    let ends = safepoint_ends i w in record {
+      result_value = λ so p h. rw (safepoint_bits i w clear) (passes so (safepoint_says i w) (judged_by (safepoint_tested i w (p _) h refl) c.lowest.ensures) c.in_ok-lowest.was ends.place);
+      clear = (in_place ends clear, safepoint_within i w clear);
+    }
