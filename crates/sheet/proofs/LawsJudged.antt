@@ -11,28 +11,14 @@ use Rattle.paper.specs.Sheet.{Sheet}
 use Rattle.paper.specs.Refusals.{Record, so_far_of, first_holding, conditions, add_record, judged, read_record}
 use Rattle.paper.specs.Refusals as paper
 use Rattle.fields.specs.Fields.{line_end}
-use Rattle.records.specs.Records.{Line, good, bad, told_by, told, InPlace, TypedWithin, PairWithin, ChangeWithin, GroupsWithin, SafepointWithin, FunctionClear, TypedClear, BlockClear, PairClear, ChangeClear, OperationClear, SafepointClear}
-use Rattle.loaded.specs.Filling.{FunctionWithin, BlockWithin, RecordStored}
+use Rattle.records.specs.Records.{Line, good, bad, told_by, told}
+use Rattle.loaded.specs.Filling.{RecordStored}
 use Rattle.records.specs.declared.Breach.{Breach}
-use Rattle.loaded.specs.declared.Counts.{Counts}
-use Rattle.records.specs.declared.Place.{Place}
-use Rattle.records.specs.declared.FunctionLine.{FunctionLine}
-use Rattle.records.specs.declared.FunctionLine.TheVariants as function
-use Rattle.records.specs.declared.TypedLine.{TypedLine}
-use Rattle.records.specs.declared.TypedLine.TheVariants as typed
-use Rattle.records.specs.declared.BlockTold.{BlockTold}
-use Rattle.records.specs.declared.BlockTold.TheVariants as block
-use Rattle.records.specs.declared.PairLine.{PairLine}
-use Rattle.records.specs.declared.PairLine.TheVariants as pair
-use Rattle.records.specs.declared.ChangeLine.{ChangeLine}
-use Rattle.records.specs.declared.ChangeLine.TheVariants as changes
-use Rattle.records.specs.declared.OperationTold.{OperationTold}
-use Rattle.records.specs.declared.OperationTold.TheVariants as operations
-use Rattle.records.specs.declared.SafepointLine.{SafepointLine}
-use Rattle.records.specs.declared.SafepointLine.TheVariants as safepoints
+use Rattle.std.specs.Prelude.{Ok, Err}
+use Rattle.std.specs.Result.{IsErrAnd}
+use Rattle.std.specs.declared.result.Result.{Result}
 use Rattle.loaded.specs.Loaded.{sheet_of, so_far}
 use Rattle.sheet.specs.Reading.{Progress, lined_of, LineRead, begun}
-use Rattle.sheet.specs.declared.Lined.TheVariants as lined
 use Rattle.sheet.proofs.LawsProgress.{sheet_so_far}
 
 apart : {Q : Type 0} {breach : Breach} {r : Record} {n : ℕ} → bad breach ≡ good r n → Q
@@ -64,20 +50,21 @@ module _ (so : Option Sheet) (end : ℕ) where
 
 module _ {read : Option Record} {s : Bytes} {at : ℕ} {l : List ℕ} {line : Line} (t : line ≡ told (so_far l) (line_end s at) read) where
   -- refused: the words are left
-  pub line_refused : {l' : List ℕ} {breach : Breach} → l' ≡ l → line ≡ bad breach → LineRead read s at l l' (lined.Bad breach)
+  pub line_refused : {l' : List ℕ} {breach : Breach} (r : Result ℕ Breach) → IsErrAnd r (λ b. b ≡ breach) → l' ≡ l → line ≡ bad breach → LineRead read s at l l' r
   unfolding lined_of
-  line_refused {l'} {breach} left e =
-      let b : read_record (so_far l) read ≡ paper.bad breach.number = told_bad (so_far l) (line_end s at) read (sym t ∙ e) in
+  line_refused (Ok n) same left e = elim same [ ]
+  line_refused {l'} {breach} (Err b) same left e =
+      let q : read_record (so_far l) read ≡ paper.bad b.number = told_bad (so_far l) (line_end s at) read (sym t ∙ e ∙ ap bad (sym same)) in
       record {
-        answer = rw b;
+        answer = rw q;
         same_length = ap length left;
         bad_line = λ number g. left;
-        good_line = λ T g. absurd (let z : paper.bad breach.number ≡ paper.good T = sym b ∙ g in let w : ◌≡◌ {A = ℕ} 0 1 = cc in omega arith);
+        good_line = λ T g. good_bad (sym g ∙ q);
       }
 
   -- accepted: the words hold one record more
   pub line_accepted : {l' : List ℕ} {r : Record} {next : ℕ} → Progress l → line ≡ good r next → next < length s → RecordStored l l' r
-      → LineRead read s at l l' (lined.Good (next + 1))
+      → LineRead read s at l l' (Ok (next + 1))
   unfolding lined_of so_far
   line_accepted {l'} {r} {next} p e inside stored =
       let q = told_good (so_far l) (line_end s at) read (sym t ∙ e) in
@@ -94,31 +81,3 @@ module _ {read : Option Record} {s : Bytes} {at : ℕ} {l : List ℕ} {line : Li
               progress = begun stored.progress;
             };
       }
-
--- a good line's values
-module _ {s : Bytes} {place : Place} {next : ℕ} where
-  pub function_clear : {r : FunctionLine} {regs slots vregs blocks entry : ℕ} → FunctionClear s place r → r ≡ function.Good regs slots vregs blocks entry next
-      → InPlace s place next × FunctionWithin regs slots vregs blocks entry
-  function_clear w e = subst (FunctionClear s place) e w
-
-  pub typed_clear : {r : TypedLine} {vregs least n : ℕ} → TypedClear s place vregs least r → r ≡ typed.Good n next → InPlace s place next × TypedWithin vregs least n
-  typed_clear {vregs} {least} w e = subst (TypedClear s place vregs least) e w
-
-  pub block_clear : {t : BlockTold} {blocks count : ℕ} {succs : List ℕ} → BlockClear s place blocks succs t → t ≡ block.Good count next
-      → InPlace s place next × BlockWithin blocks count succs
-  block_clear {blocks} {succs} w e = subst (BlockClear s place blocks succs) e w
-
-  pub pair_clear : {r : PairLine} {first second a b : ℕ} → PairClear s place first second r → r ≡ pair.Good a b next → InPlace s place next × PairWithin first second a b
-  pair_clear {first} {second} w e = subst (PairClear s place first second) e w
-
-  pub change_clear : {r : ChangeLine} {slots inst slot from to : ℕ} → ChangeClear s place slots r → r ≡ changes.Good inst slot from to next
-      → InPlace s place next × ChangeWithin slots inst slot from to
-  change_clear {slots} w e = subst (ChangeClear s place slots) e w
-
-  pub operation_clear : {t : OperationTold} {counts : Counts} {marks words : List ℕ} {inst n m : ℕ} → OperationClear s place counts marks words t
-      → t ≡ operations.Good inst n m next → InPlace s place next × GroupsWithin counts marks words n m
-  operation_clear {counts} {marks} {words} w e = subst (OperationClear s place counts marks words) e w
-
-  pub safepoint_clear : {r : SafepointLine} {slots inst mask : ℕ} → SafepointClear s place slots r → r ≡ safepoints.Good inst mask next
-      → InPlace s place next × SafepointWithin slots inst mask
-  safepoint_clear {slots} w e = subst (SafepointClear s place slots) e w

@@ -14,8 +14,9 @@ use Rattle.paper.specs.Refusals.{Record, one_byte, by_letter, record_of, read_re
 use Rattle.fields.specs.Fields.{ends_line, ends_field, line_at, field_at, line_end, field_end, fields_behind}
 use Rattle.fields.specs.Cursor.{until_more, fields_at}
 use Rattle.sheet.specs.Reading.{SheetText, lined_of, LineRead}
-use Rattle.sheet.specs.declared.Lined as Lined
-use Rattle.sheet.specs.declared.Lined.TheVariants as lined
+use Rattle.std.specs.Prelude.{Err}
+use Rattle.std.specs.declared.result.Result.{Result}
+use Rattle.records.specs.declared.Breach.{Breach}
 use Rattle.records.specs.Letters.{opens, letter_ends}
 
 -- a byte that ends no field ends no line
@@ -36,7 +37,7 @@ module _ (s : Bytes) (at : ℕ) (text : SheetText s) (inside : at < length s) wh
     by_its_letter = rw (fields_at s at, e)
 
     pub read_by_letter : (letter ≡ 0 → ⊥) → (read : Option Record) → by_letter letter (fields_behind s (at + 1)) ≡ read
-        → {l l' : List ℕ} {r : Lined.Lined} → LineRead read s (at + 1) l l' r → LineRead (record_of (fields (line_at s at))) s at l l' r
+        → {l l' : List ℕ} {r : Result ℕ Breach} → LineRead read s (at + 1) l l' r → LineRead (record_of (fields (line_at s at))) s at l l' r
     read_by_letter d read same line =
         let here : one_byte (field_at s at) ≡ 0 → ⊥ = λ z. d (sym e ∙ z) in
         let q : record_of (fields (line_at s at)) ≡ read = by_its_letter ∙ rw (letter_ends s at inside here) same in
@@ -50,7 +51,7 @@ module _ (s : Bytes) (at : ℕ) (text : SheetText s) (inside : at < length s) wh
         })
 
     -- refusal 3
-    pub no_letter : (by_letter letter (fields_behind s (field_end s at)) ≡ none) → (l : List ℕ) → LineRead (record_of (fields (line_at s at))) s at l l (lined.Bad (record { number = 3 }))
+    pub no_letter : (by_letter letter (fields_behind s (field_end s at)) ≡ none) → (l : List ℕ) → LineRead (record_of (fields (line_at s at))) s at l l (Err (record { number = 3 }))
     unfolding lined_of read_record
     no_letter z l = rw (by_its_letter, z) (record {
       answer = refl;

@@ -24,15 +24,14 @@ use Rattle.loaded.specs.Loaded.{reached_of, sheet_of, so_far}
 use Rattle.loaded.specs.Filling.{Blank}
 use Rattle.sheet.specs.Reading.{Progress, lined_of, LineRead, BadLine, loading_of, Load}
 use Rattle.sheet.specs.Reading as reading
-use Rattle.sheet.specs.declared.Lined.TheVariants as lined
-use Rattle.sheet.specs.declared.Loading as Loading
-use Rattle.sheet.specs.declared.Loading.TheVariants as loading
+use Rattle.std.specs.Prelude.{Ok, Err}
+use Rattle.std.specs.declared.result.Result.{Result}
 use Rattle.loaded.specs.Blocks.{length_blocks}
 use Rattle.sheet.proofs.LawsProgress.{so_far_blank, so_far_begun, so_far_counted}
 
 -- a sheet that is refused: its words may be anything
 refused_load : {sheet : Bytes} {before after : List ℕ} {refusal : Refusal} → read sheet ≡ refused refusal → length after ≡ length before
-    → Load sheet before after (loading.Refused refusal)
+    → Load sheet before after (Err refusal)
 unfolding loading_of
 refused_load {refusal} q len = record {
   answer = rw q;
@@ -60,12 +59,12 @@ ahead_at_first sheet words₀ words e blank same = record {
 
 -- a line
 
-good_of : (next n : ℕ) (x : paper.Lined) (P : Type 0) → lined.Good n ≡ lined_of next x → ((S : Sheet) → x ≡ good S → n ≡ next → P) → P
+good_of : (next n : ℕ) (x : paper.Lined) (P : Type 0) → Ok n ≡ lined_of next x → ((S : Sheet) → x ≡ good S → n ≡ next → P) → P
 unfolding lined_of
 good_of next n (good S) P e f = f S refl (cc)
 good_of next n (bad k) P e f = absurd (let z : ◌≡◌ {A = ℕ} 0 1 = cc in omega arith)
 
-bad_of : (next : ℕ) (breach : Breach) (x : paper.Lined) → lined.Bad breach ≡ lined_of next x → x ≡ bad breach.number
+bad_of : (next : ℕ) (breach : Breach) (x : paper.Lined) → Err breach ≡ lined_of next x → x ≡ bad breach.number
 unfolding lined_of
 bad_of next breach (good S) e = absurd (let z : ◌≡◌ {A = ℕ} 0 1 = cc in omega arith)
 bad_of next breach (bad k) e = let z : ◌≡◌ {A = Breach} breach (record { number = k }) = cc in ap (λ (b : Breach). bad b.number) (sym z)
@@ -82,7 +81,7 @@ module _ {sheet : Bytes} {at line : ℕ} {words₀ words : List ℕ} (ahead : Ah
   unfolding read_lines read_line
   next_line = ahead.gives ∙ rw (lines_at sheet at more)
 
-  pub line_good : {words' : List ℕ} (n : ℕ) → LineRead (record_of (fields (line_at sheet at))) sheet at words words' (lined.Good n) → Ahead sheet n (line + 1) words₀ words'
+  pub line_good : {words' : List ℕ} (n : ℕ) → LineRead (record_of (fields (line_at sheet at))) sheet at words words' (Ok n) → Ahead sheet n (line + 1) words₀ words'
   unfolding carry_on
   line_good {words'} n r =
       good_of (line_end sheet at + 1) n (read_record (so_far words) (record_of (fields (line_at sheet at)))) (Ahead sheet n (line + 1) words₀ words') r.answer λ S g e.
@@ -95,12 +94,12 @@ module _ {sheet : Bytes} {at line : ℕ} {words₀ words : List ℕ} (ahead : Ah
         few = omega (arith, ahead.few, further sheet at);
       })
 
-  pub line_further : {words' : List ℕ} (n : ℕ) → LineRead (record_of (fields (line_at sheet at))) sheet at words words' (lined.Good n) → at < n
+  pub line_further : {words' : List ℕ} (n : ℕ) → LineRead (record_of (fields (line_at sheet at))) sheet at words words' (Ok n) → at < n
   line_further n r =
       good_of (line_end sheet at + 1) n (read_record (so_far words) (record_of (fields (line_at sheet at)))) (at < n) r.answer λ S g e.
       omega (arith, further sheet at)
 
-  module _ {words' : List ℕ} (breach : Breach) (r : LineRead (record_of (fields (line_at sheet at))) sheet at words words' (lined.Bad breach)) where
+  module _ {words' : List ℕ} (breach : Breach) (r : LineRead (record_of (fields (line_at sheet at))) sheet at words words' (Err breach)) where
     refused_by : read_record (so_far words) (record_of (fields (line_at sheet at))) ≡ bad breach.number
     refused_by = bad_of (line_end sheet at + 1) breach _ r.answer
 
@@ -109,7 +108,7 @@ module _ {sheet : Bytes} {at line : ℕ} {words₀ words : List ℕ} (ahead : Ah
     bad_progress = rw (r.bad_line breach.number refused_by) ahead.progress
 
     -- the field is looked for beside the sheet so far
-    pub line_bad : {refusal : Refusal} → BadLine sheet at words' breach line refusal → Load sheet words₀ words' (loading.Refused refusal)
+    pub line_bad : {refusal : Refusal} → BadLine sheet at words' breach line refusal → Load sheet words₀ words' (Err refusal)
     unfolding carry_on
     line_bad {refusal} b =
         let same : words' ≡ words = r.bad_line breach.number refused_by in
@@ -129,7 +128,7 @@ module _ {sheet : Bytes} {at line : ℕ} {words₀ words : List ℕ} (ahead : Ah
 
   -- "or the sheet ends with too few `B`"
   pub too_few : {r : Reached} {blocks : ℕ} → r ≡ reached_of words → blocks ≡ get_or words blocks_word 0 → (not r.begun || ltb r.opened blocks) ≡ true
-      → Load sheet words₀ words (loading.Refused (record { number = 4; line = line; field = 0 }))
+      → Load sheet words₀ words (Err (record { number = 4; line = line; field = 0 }))
   unfolding read_end sheet_of
   too_few q n e = refused_load (at_end ∙ go ahead.progress (rw (q, n) at e)) ahead.same_length
     where
@@ -139,14 +138,14 @@ module _ {sheet : Bytes} {at line : ℕ} {words₀ words : List ℕ} (ahead : Ah
       go (reading.begun p) e = rw (so_far_begun words p, length_blocks words 0 (get_or words opened_word 0), rw p.begun at e)
 
   pub all_read : {r : Reached} {blocks : ℕ} → r ≡ reached_of words → blocks ≡ get_or words blocks_word 0 → (not r.begun || ltb r.opened blocks) ≡ false
-      → Load sheet words₀ words loading.Loaded
+      → Load sheet words₀ words (Ok tt)
   unfolding loading_of read_end sheet_of
   all_read q n f = go ahead.progress
     where
       e : (not (not (eqb (get_or words begun_word 0) 0)) || ltb (get_or words opened_word 0) (get_or words blocks_word 0)) ≡ false
       e = rw (q, n) at f
 
-      go : Progress words → Load sheet words₀ words loading.Loaded
+      go : Progress words → Load sheet words₀ words (Ok tt)
       go (reading.blank p) = absurd (let z : true ≡ false = rw (p.zeros begun_word (omega arith)) at e in true≢false z)
       go (reading.begun p) =
           let few : ltb (get_or words opened_word 0) (get_or words blocks_word 0) ≡ false = rw p.begun at e in
@@ -163,7 +162,7 @@ module _ {sheet : Bytes} {at line : ℕ} {words₀ words : List ℕ} (ahead : Ah
 -- before the first line
 
 -- refusal 2
-pub no_sheet : (sheet : Bytes) (words : List ℕ) → no_text sheet ≡ true → Load sheet words words (loading.Refused (record { number = 2; line = 0; field = 0 }))
+pub no_sheet : (sheet : Bytes) (words : List ℕ) → no_text sheet ≡ true → Load sheet words words (Err (record { number = 2; line = 0; field = 0 }))
 unfolding read
 no_sheet sheet words e = refused_load (rw e) refl
 
@@ -183,6 +182,6 @@ module _ (words zeros : List ℕ) (e : zeros ≡ replicate (length (take block_b
         get_or-append zeros (drop block_base words) 0 i here ∙ ap (λ l. get_or l i 0) cleared_front ∙ get_or-replicate block_base i 0 0 h;
   }
 
-pub load_from : {sheet : Bytes} {words₀ words : List ℕ} {r : Loading.Loading} (before : List ℕ) → length words₀ ≡ length before → Load sheet words₀ words r
+pub load_from : {sheet : Bytes} {words₀ words : List ℕ} {r : Result (Unit {0}) Refusal} (before : List ℕ) → length words₀ ≡ length before → Load sheet words₀ words r
     → Load sheet before words r
 load_from before e l = record { answer = l.answer; same_length = l.same_length ∙ e; meaning = l.meaning }

@@ -1,5 +1,6 @@
 -- How far reading has come, what one line does to the loaded words, and what loading a sheet promises.
-use Rattle.std.specs.Prelude.{◌≡◌, List, ℕ, ◌+◌, ◌-◌, ◌≤◌, ◌<◌, eqb, leb, length, get_or}
+use Rattle.std.specs.Prelude.{◌≡◌, List, ℕ, ◌+◌, ◌-◌, ◌≤◌, ◌<◌, eqb, leb, length, get_or, Ok, Err}
+use Rattle.std.specs.declared.result.Result.{Result}
 use Rattle.std.proofs.Math.Option.{Option, some}
 use Rattle.paper.specs.Text.{Bytes, line_feed, fields}
 use Rattle.paper.specs.Sheet.{Sheet}
@@ -18,10 +19,6 @@ use Rattle.loaded.specs.declared.CopyKind.TheVariants.{Spill, Reload, Move}
 use Rattle.loaded.specs.Filling.{Blank, Begun}
 use Rattle.loaded.specs.Loaded.{sheet_of, so_far, counts_of, Loaded}
 use Rattle.sheet.specs.declared.CopyLimits.{CopyLimits}
-use Rattle.sheet.specs.declared.Lined as Lined
-use Rattle.sheet.specs.declared.Lined.TheVariants as lined
-use Rattle.sheet.specs.declared.Loading as Loading
-use Rattle.sheet.specs.declared.Loading.TheVariants as loading
 
 -- what `no_text` lets pass
 pub record SheetText (sheet : Bytes) : Type 0 where
@@ -48,9 +45,9 @@ limits_of Move counts = record { into = counts.regs; from = counts.regs }
 -- one line
 
 -- a good line comes with the place of the next one
-unfoldable pub lined_of : ℕ → paper.Lined → Lined.Lined
-lined_of next (good S) = lined.Good next
-lined_of next (bad number) = lined.Bad (record { number = number })
+unfoldable pub lined_of : ℕ → paper.Lined → Result ℕ Breach
+lined_of next (good S) = Ok next
+lined_of next (bad number) = Err (record { number = number })
 
 -- behind a good line the words hold the sheet that it makes; a bad one leaves them
 pub record GoodLine (sheet : Bytes) (at : ℕ) (words : List ℕ) (S : Sheet) : Type 0 where
@@ -59,7 +56,7 @@ pub record GoodLine (sheet : Bytes) (at : ℕ) (words : List ℕ) (S : Sheet) : 
   pub progress : Progress words
 
 -- the line that ends behind `at` was read as `read`
-pub record LineRead (read : Option Record) (sheet : Bytes) (at : ℕ) (before after : List ℕ) (r : Lined.Lined) : Type 0 where
+pub record LineRead (read : Option Record) (sheet : Bytes) (at : ℕ) (before after : List ℕ) (r : Result ℕ Breach) : Type 0 where
   pub answer : r ≡ lined_of (line_end sheet at + 1) (read_record (so_far before) read)
   pub same_length : length after ≡ length before
   pub good_line : (S : Sheet) → read_record (so_far before) read ≡ good S → GoodLine sheet at after S
@@ -73,12 +70,12 @@ pub record BadLine (sheet : Bytes) (at : ℕ) (words : List ℕ) (breach : Breac
 
 -- a sheet
 
-unfoldable pub loading_of : Reading → Loading.Loading
-loading_of (loaded S) = loading.Loaded
-loading_of (refused refusal) = loading.Refused refusal
+unfoldable pub loading_of : Reading → Result (Unit {0}) Refusal
+loading_of (loaded S) = Ok tt
+loading_of (refused refusal) = Err refusal
 
 -- what loading promises, whatever the words held before. A refusal's words may be anything.
-pub record Load (sheet : Bytes) (before after : List ℕ) (r : Loading.Loading) : Type 0 where
+pub record Load (sheet : Bytes) (before after : List ℕ) (r : Result (Unit {0}) Refusal) : Type 0 where
   pub answer : r ≡ loading_of (read sheet)
   pub same_length : length after ≡ length before
   pub meaning : (S : Sheet) → read sheet ≡ loaded S → (sheet_of after ≡ S) × Loaded after

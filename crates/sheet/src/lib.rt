@@ -16,24 +16,7 @@ ghost use Rattle.sheet.specs.Reading.{limits_of, SheetText, Progress, step_place
 use layout::{BLOCK_BASE, MAX_SHEET, MAX_STEPS, TYPED_BASE};
 use loaded::{Action, CopyKind, Counts};
 use paper::{ILL_FORMED, NO_TEXT, OUT_OF_PLACE, Refusal};
-use records::{
-    BlockTold, Breach, ChangeLine, FunctionLine, OperationTold, PairLine, Place, SafepointLine,
-    TypedLine,
-};
-
-// What loading a sheet comes to: its words stand, or it is refused.
-#[derive(Clone, Copy)]
-pub enum Loading {
-    Loaded,
-    Refused(Refusal),
-}
-
-// What a line comes to: the place of the next one, or what it breaks.
-#[derive(Clone, Copy)]
-pub enum Lined {
-    Good(usize),
-    Bad(Breach),
-}
+use records::{Breach, Place};
 
 // The limits of a copy's two numbers.
 #[derive(Clone, Copy)]
@@ -78,7 +61,7 @@ fn step_place(words: &[u16]) -> Place
     }
 }
 
-fn read_function(sheet: &[u8], at: usize, words: &mut [u16]) -> Lined
+fn read_function(sheet: &[u8], at: usize, words: &mut [u16]) -> Result<usize, Breach>
     requires { Behind sheet.now at × Progress words.old }
     ensures { LineRead (function_of (fields_behind sheet.now at)) sheet.now at words.old words.new result }
 {
@@ -87,31 +70,19 @@ fn read_function(sheet: &[u8], at: usize, words: &mut [u16]) -> Lined
         misplaced: reached.begun,
         surplus: false,
     };
-    let line = records::function_line(sheet, at, place);
-    match line {
-        FunctionLine::Bad(breach) => Lined::Bad(breach),
-        FunctionLine::Good {
-            regs,
-            slots,
-            vregs,
-            blocks,
-            entry,
-            next,
-        } => {
-            loaded::store_function(
-                words,
-                regs as u16,
-                slots as u16,
-                vregs as u16,
-                blocks as u16,
-                entry as u16,
-            );
-            Lined::Good(next + 1)
-        }
-    }
+    let line = records::function_line(sheet, at, place)?;
+    loaded::store_function(
+        words,
+        line.regs as u16,
+        line.slots as u16,
+        line.vregs as u16,
+        line.blocks as u16,
+        line.entry as u16,
+    );
+    Ok(line.next + 1)
 }
 
-fn read_typed(sheet: &[u8], at: usize, words: &mut [u16]) -> Lined
+fn read_typed(sheet: &[u8], at: usize, words: &mut [u16]) -> Result<usize, Breach>
     requires { Behind sheet.now at × Progress words.old }
     ensures { LineRead (typed_of (fields_behind sheet.now at)) sheet.now at words.old words.new result }
 {
@@ -121,17 +92,12 @@ fn read_typed(sheet: &[u8], at: usize, words: &mut [u16]) -> Lined
         surplus: false,
     };
     let counts = loaded::counts_of(words);
-    let line = records::typed_line(sheet, at, place, counts, reached.least);
-    match line {
-        TypedLine::Bad(breach) => Lined::Bad(breach),
-        TypedLine::Good { n, next } => {
-            loaded::add_typed(words, n as usize);
-            Lined::Good(next + 1)
-        }
-    }
+    let line = records::typed_line(sheet, at, place, counts, reached.least)?;
+    loaded::add_typed(words, line.n as usize);
+    Ok(line.next + 1)
 }
 
-fn read_block(sheet: &[u8], at: usize, words: &mut [u16]) -> Lined
+fn read_block(sheet: &[u8], at: usize, words: &mut [u16]) -> Result<usize, Breach>
     requires { Behind sheet.now at × Progress words.old }
     ensures { LineRead (block_of (fields_behind sheet.now at)) sheet.now at words.old words.new result }
 {
@@ -141,16 +107,9 @@ fn read_block(sheet: &[u8], at: usize, words: &mut [u16]) -> Lined
         surplus: false,
     };
     let counts = loaded::counts_of(words);
-    let line = records::block_line(sheet, at, place, counts);
-    let told = line.told;
-    match told {
-        BlockTold::Bad(breach) => Lined::Bad(breach),
-        BlockTold::Good { count, next } => {
-            let succs = line.succs;
-            loaded::add_block(words, succs, count);
-            Lined::Good(next + 1)
-        }
-    }
+    let line = records::block_line(sheet, at, place, counts)?;
+    loaded::add_block(words, line.succs, line.count);
+    Ok(line.next + 1)
 }
 
 // What the two numbers of a copy are held against: the counts of the rows that it goes between.
@@ -176,95 +135,68 @@ fn limits_of(kind: CopyKind, counts: Counts) -> CopyLimits
 }
 
 // `S slot reg`, `L reg slot`, `M into from`
-fn read_copy(kind: CopyKind, sheet: &[u8], at: usize, words: &mut [u16]) -> Lined
+fn read_copy(kind: CopyKind, sheet: &[u8], at: usize, words: &mut [u16]) -> Result<usize, Breach>
     requires { Behind sheet.now at × Progress words.old }
     ensures { LineRead (two_numbers_of (copy_step kind) (fields_behind sheet.now at)) sheet.now at words.old words.new result }
 {
     let place = step_place(words);
     let counts = loaded::counts_of(words);
     let limits = limits_of(kind, counts);
-    let line = records::pair_line(sheet, at, place, limits.into, limits.from);
-    match line {
-        PairLine::Bad(breach) => Lined::Bad(breach),
-        PairLine::Good { a, b, next } => {
-            let into = a as usize;
-            let from = b as usize;
-            loaded::add_step(words, Action::Copy { kind, into, from });
-            Lined::Good(next + 1)
-        }
-    }
+    let line = records::pair_line(sheet, at, place, limits.into, limits.from)?;
+    let into = line.a as usize;
+    let from = line.b as usize;
+    loaded::add_step(words, Action::Copy { kind, into, from });
+    Ok(line.next + 1)
 }
 
 // `C inst slot from to`
-fn read_change(sheet: &[u8], at: usize, words: &mut [u16]) -> Lined
+fn read_change(sheet: &[u8], at: usize, words: &mut [u16]) -> Result<usize, Breach>
     requires { Behind sheet.now at × Progress words.old }
     ensures { LineRead (change_of (fields_behind sheet.now at)) sheet.now at words.old words.new result }
 {
     let place = step_place(words);
     let counts = loaded::counts_of(words);
-    let line = records::change_line(sheet, at, place, counts, &words[TYPED_BASE..BLOCK_BASE]);
-    match line {
-        ChangeLine::Bad(breach) => Lined::Bad(breach),
-        ChangeLine::Good {
-            inst,
-            slot,
-            from,
-            to,
-            next,
-        } => {
-            let slot = slot as usize;
-            loaded::add_step(
-                words,
-                Action::Change {
-                    inst,
-                    slot,
-                    from,
-                    to,
-                },
-            );
-            Lined::Good(next + 1)
-        }
-    }
+    let line = records::change_line(sheet, at, place, counts, &words[TYPED_BASE..BLOCK_BASE])?;
+    let change = Action::Change {
+        inst: line.inst,
+        slot: line.slot as usize,
+        from: line.from,
+        to: line.to,
+    };
+    loaded::add_step(words, change);
+    Ok(line.next + 1)
 }
 
 // `O inst n (name reg)*n m (name reg)*m`
-fn read_operation(sheet: &[u8], at: usize, words: &mut [u16]) -> Lined
+fn read_operation(sheet: &[u8], at: usize, words: &mut [u16]) -> Result<usize, Breach>
     requires { Behind sheet.now at × Progress words.old }
     ensures { LineRead (operation_of (fields_behind sheet.now at)) sheet.now at words.old words.new result }
 {
     let place = step_place(words);
     let counts = loaded::counts_of(words);
-    let line = records::operation_line(sheet, at, place, counts, &words[TYPED_BASE..BLOCK_BASE]);
-    let told = line.told;
-    match told {
-        OperationTold::Bad(breach) => Lined::Bad(breach),
-        OperationTold::Good { inst, n, m, next } => {
-            let operands = line.operands;
-            loaded::add_operation(words, inst, operands, n, m);
-            Lined::Good(next + 1)
-        }
-    }
+    let line = records::operation_line(sheet, at, place, counts, &words[TYPED_BASE..BLOCK_BASE])?;
+    loaded::add_operation(words, line.inst, line.operands, line.n, line.m);
+    Ok(line.next + 1)
 }
 
 // `P inst slot..`
-fn read_safepoint(sheet: &[u8], at: usize, words: &mut [u16]) -> Lined
+fn read_safepoint(sheet: &[u8], at: usize, words: &mut [u16]) -> Result<usize, Breach>
     requires { Behind sheet.now at × Progress words.old }
     ensures { LineRead (safepoint_of (fields_behind sheet.now at)) sheet.now at words.old words.new result }
 {
     let place = step_place(words);
     let counts = loaded::counts_of(words);
-    let line = records::safepoint_line(sheet, at, place, counts);
-    match line {
-        SafepointLine::Bad(breach) => Lined::Bad(breach),
-        SafepointLine::Good { inst, mask, next } => {
-            loaded::add_step(words, Action::Safepoint { inst, mask });
-            Lined::Good(next + 1)
-        }
-    }
+    let line = records::safepoint_line(sheet, at, place, counts)?;
+    let safepoint = Action::Safepoint {
+        inst: line.inst,
+        mask: line.mask,
+    };
+    loaded::add_step(words, safepoint);
+    Ok(line.next + 1)
 }
 
 // One line, by its letter; none is refusal 3.
-fn read_line(sheet: &[u8], at: usize, words: &mut [u16]) -> Lined
+fn read_line(sheet: &[u8], at: usize, words: &mut [u16]) -> Result<usize, Breach>
     requires { SheetText sheet.now × (at < length sheet.now) × Progress words.old }
     ensures { LineRead (record_of (fields (line_at sheet.now at))) sheet.now at words.old words.new result }
 {
@@ -278,7 +210,7 @@ fn read_line(sheet: &[u8], at: usize, words: &mut [u16]) -> Lined
         b'C' => read_change(sheet, at + 1, words),
         b'O' => read_operation(sheet, at + 1, words),
         b'P' => read_safepoint(sheet, at + 1, words),
-        _ => Lined::Bad(Breach { number: ILL_FORMED }),
+        _ => Err(Breach { number: ILL_FORMED }),
     }
 }
 
@@ -299,12 +231,12 @@ fn refusal_of(sheet: &[u8], at: usize, words: &[u16], breach: Breach, line: usiz
 
 // The sheet's words, or its refusal. Whatever the words held before; a refusal's words may be anything, and the caller clears
 // them.
-pub fn load(sheet: &[u8], words: &mut [u16]) -> Loading
+pub fn load(sheet: &[u8], words: &mut [u16]) -> Result<(), Refusal>
     requires { words_size ≤ length words.old }
     ensures { Load sheet.now words.old words.new result }
 {
     if no_text(sheet) {
-        return Loading::Refused(Refusal {
+        return Err(Refusal {
             number: NO_TEXT,
             line: 0,
             field: 0,
@@ -314,24 +246,21 @@ pub fn load(sheet: &[u8], words: &mut [u16]) -> Loading
     let mut at = 0;
     let mut line: usize = 1;
     while at < sheet.len() {
-        let lined = read_line(sheet, at, words);
-        match lined {
-            Lined::Bad(breach) => {
-                return Loading::Refused(refusal_of(sheet, at, words, breach, line));
-            }
-            Lined::Good(next) => {
+        match read_line(sheet, at, words) {
+            Ok(next) => {
                 at = next;
                 line += 1;
             }
+            Err(breach) => return Err(refusal_of(sheet, at, words, breach, line)),
         }
     }
     let reached = loaded::progress(words);
     if !reached.begun | (reached.opened < loaded::blocks(words)) {
-        return Loading::Refused(Refusal {
+        return Err(Refusal {
             number: OUT_OF_PLACE,
             line,
             field: 0,
         });
     }
-    Loading::Loaded
+    Ok(())
 }

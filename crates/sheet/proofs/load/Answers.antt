@@ -24,26 +24,26 @@ loop-at-init c =
     ahead_at_first _ _ _ (sym c.no_text.ensures ∙ c.if-no_text.false) (cleared_blank c.args.words.now _ c.clear_words.ensures
     (omega (arith, c.requires))) refl
 
-pub read_line-lined-requires : goal.read_line-lined-requires
-read_line-lined-requires c =
+pub read_line-requires : goal.read_line-requires
+read_line-requires c =
     ((text_of _ (sym c.no_text.ensures ∙ c.if-no_text.false)), c.loop-at-test.true, c.loop-at.invariant.progress)
 
 -- a bad line
 pub refusal_of-requires : goal.refusal_of-requires
 refusal_of-requires c =
     let h = c.loop-at-test.true in
-    ((text_of _ (sym c.no_text.ensures ∙ c.if-no_text.false)), h, size_of _ (bad_progress c.loop-at.invariant h c.in-Bad.breach (rw c.in-Bad.is at c.read_line-lined.ensures)))
+    ((text_of _ (sym c.no_text.ensures ∙ c.if-no_text.false)), h, size_of _ (bad_progress c.loop-at.invariant h c.in-Err.breach c.in-Err.ensures))
 
-pub shape_of-words-in-Bad : goal.shape_of-words-in-Bad
-shape_of-words-in-Bad c =
-    c.read_line-lined.ensures.same_length ∙ (c.loop-at.invariant.same_length ∙ (cleared_length c.args.words.now _ c.clear_words.ensures
+pub shape_of-words-in-Err : goal.shape_of-words-in-Err
+shape_of-words-in-Err c =
+    c.read_line.ensures.same_length ∙ (c.loop-at.invariant.same_length ∙ (cleared_length c.args.words.now _ c.clear_words.ensures
     (omega (arith, c.requires))))
 
-pub returns-in-Bad : goal.returns-in-Bad
-returns-in-Bad c =
+pub returns-in-Err : goal.returns-in-Err
+returns-in-Err c =
     load_from _ (cleared_length c.args.words.now _ c.clear_words.ensures
     (omega (arith, c.requires)))
-    (line_bad c.loop-at.invariant c.loop-at-test.true c.in-Bad.breach (rw c.in-Bad.is at c.read_line-lined.ensures) c.refusal_of.ensures)
+    (line_bad c.loop-at.invariant c.loop-at-test.true c.in-Err.breach c.in-Err.ensures c.refusal_of.ensures)
 
 pub overflow_add-line : goal.overflow_add-line
 overflow_add-line c =
@@ -53,11 +53,11 @@ overflow_add-line c =
 pub loop-at-smaller : goal.loop-at-smaller
 loop-at-smaller c =
     let h = c.loop-at-test.true in
-    omega (arith, line_further c.loop-at.invariant h c.in-Good.next (rw c.in-Good.is at c.read_line-lined.ensures), h)
+    omega (arith, line_further c.loop-at.invariant h c.in-Ok.next c.in-Ok.ensures, h)
 
 pub loop-at-preserved : goal.loop-at-preserved
 loop-at-preserved c =
-    line_good c.loop-at.invariant c.loop-at-test.true c.in-Good.next (rw c.in-Good.is at c.read_line-lined.ensures)
+    line_good c.loop-at.invariant c.loop-at-test.true c.in-Ok.next c.in-Ok.ensures
 
 pub progress-reached-requires : goal.progress-reached-requires
 progress-reached-requires c = (size_of _ c.loop-at.invariant.progress)

@@ -8,7 +8,7 @@ use Rattle.records.specs.Records.{change_line}
 use Rattle.loaded.specs.Actions.{step_of}
 use Rattle.loaded.specs.Loaded.{so_far}
 use Rattle.sheet.proofs.LawsProgress.{step_ready, size_of, step_placed, within_by, so_far_counted, so_far_typed}
-use Rattle.sheet.proofs.LawsJudged.{line_refused, line_accepted, change_clear}
+use Rattle.sheet.proofs.LawsJudged.{line_refused, line_accepted}
 use Rattle.sheet.proofs.LawsActions.{change_fits}
 use Rattle.sheet.proofs.read_change.Goals as goal
 
@@ -21,35 +21,35 @@ counts_of-counts-requires c = size_of _ c.requires.1
 pub slice_bounds-change_line-end : goal.slice_bounds-change_line-end
 slice_bounds-change_line-end c = omega (arith, size_of _ c.requires.1)
 
-pub change_line-line-requires : goal.change_line-line-requires
+pub change_line-requires : goal.change_line-requires
 unfolding region
-change_line-line-requires c =
+change_line-requires c =
     let typed = length_region typed_base typed_words c.args.words.now (omega (arith, size_of _ c.requires.1)) in
     (c.requires.0, typed, within_by _ _ c.counts_of-counts.ensures c.requires.1)
 
 pub add_step-requires : goal.add_step-requires
 add_step-requires c =
-    let r = (step_ready c.requires.1 c.step_place-place.ensures (change_clear c.change_line-line.ensures.clear c.in-Good.is).0) in
-    (r.some_sheet, r.some_block, r.some_room, change_fits _ c.requires.1 _ _ _ _ (rw c.counts_of-counts.ensures at (change_clear c.change_line-line.ensures.clear c.in-Good.is).1.slot_below))
+    let r = (step_ready c.requires.1 c.step_place-place.ensures c.in_ok-line.ensures.clear.0) in
+    (r.some_sheet, r.some_block, r.some_room, change_fits _ c.requires.1 _ _ _ _ (rw c.counts_of-counts.ensures at c.in_ok-line.ensures.clear.1.slot_below))
 
 pub overflow_add-result : goal.overflow_add-result
 overflow_add-result c =
-    omega (arith, (change_clear c.change_line-line.ensures.clear c.in-Good.is).0.inside, c.requires.0.size)
+    omega (arith, c.in_ok-line.ensures.clear.0.inside, c.requires.0.size)
 
-pub shape_of-words-in-Bad : goal.shape_of-words-in-Bad
-shape_of-words-in-Bad c = refl
+pub shape_of-words-in_err-line : goal.shape_of-words-in_err-line
+shape_of-words-in_err-line c = refl
 
-pub returns-in-Bad : goal.returns-in-Bad
+pub returns-in_err-line : goal.returns-in_err-line
 unfolding change_line region
-returns-in-Bad c =
+returns-in_err-line c =
     line_refused (let p = c.requires.1 in
-    c.change_line-line.ensures.result_value (so_far _) (step_placed _ p _ c.step_place-place.ensures) (so_far_counted _ p _ c.counts_of-counts.ensures) (so_far_typed _ p)) refl (ap change_line c.in-Bad.is)
+    c.change_line.ensures.result_value (so_far _) (step_placed _ p _ c.step_place-place.ensures) (so_far_counted _ p _ c.counts_of-counts.ensures) (so_far_typed _ p)) _ c.from_residual.ensures.1 refl (ap change_line c.in_err-line.was)
 
-pub shape_of-words-in-Good : goal.shape_of-words-in-Good
-shape_of-words-in-Good c = c.add_step.ensures.same_length
+pub shape_of-words : goal.shape_of-words
+shape_of-words c = c.add_step.ensures.same_length
 
-pub returns-in-Good : goal.returns-in-Good
+pub returns : goal.returns
 unfolding change_line step_of region
-returns-in-Good c =
+returns c =
     line_accepted (let p = c.requires.1 in
-    c.change_line-line.ensures.result_value (so_far _) (step_placed _ p _ c.step_place-place.ensures) (so_far_counted _ p _ c.counts_of-counts.ensures) (so_far_typed _ p)) c.requires.1 (ap change_line c.in-Good.is) (change_clear c.change_line-line.ensures.clear c.in-Good.is).0.inside c.add_step.ensures
+    c.change_line.ensures.result_value (so_far _) (step_placed _ p _ c.step_place-place.ensures) (so_far_counted _ p _ c.counts_of-counts.ensures) (so_far_typed _ p)) c.requires.1 (ap change_line c.in_ok-line.was) c.in_ok-line.ensures.clear.0.inside c.add_step.ensures

@@ -6,7 +6,7 @@ use Rattle.records.specs.Records.{pair_line}
 use Rattle.loaded.specs.Actions.{copy_step, step_of}
 use Rattle.loaded.specs.Loaded.{so_far}
 use Rattle.sheet.proofs.LawsProgress.{step_ready, size_of, step_placed, so_far_counted}
-use Rattle.sheet.proofs.LawsJudged.{line_refused, line_accepted, pair_clear}
+use Rattle.sheet.proofs.LawsJudged.{line_refused, line_accepted}
 use Rattle.sheet.proofs.LawsActions.{copy_fits, copy_paired}
 use Rattle.sheet.proofs.read_copy.Goals as goal
 
@@ -16,32 +16,32 @@ step_place-place-requires c = size_of _ c.requires.1
 pub counts_of-counts-requires : goal.counts_of-counts-requires
 counts_of-counts-requires c = size_of _ c.requires.1
 
-pub pair_line-line-requires : goal.pair_line-line-requires
-pair_line-line-requires c = c.requires.0
+pub pair_line-requires : goal.pair_line-requires
+pair_line-requires c = c.requires.0
 
 pub add_step-requires : goal.add_step-requires
 add_step-requires c =
-    let r = (step_ready c.requires.1 c.step_place-place.ensures (pair_clear c.pair_line-line.ensures.clear c.in-Good.is).0) in
-    (r.some_sheet, r.some_block, r.some_room, copy_fits _ c.requires.1 _ c.counts_of-counts.ensures c.limits_of-limits.ensures (pair_clear c.pair_line-line.ensures.clear c.in-Good.is).1)
+    let r = (step_ready c.requires.1 c.step_place-place.ensures c.in_ok-line.ensures.clear.0) in
+    (r.some_sheet, r.some_block, r.some_room, copy_fits _ c.requires.1 _ c.counts_of-counts.ensures c.limits_of-limits.ensures c.in_ok-line.ensures.clear.1)
 
 pub overflow_add-result : goal.overflow_add-result
 overflow_add-result c =
-    omega (arith, (pair_clear c.pair_line-line.ensures.clear c.in-Good.is).0.inside, c.requires.0.size)
+    omega (arith, c.in_ok-line.ensures.clear.0.inside, c.requires.0.size)
 
-pub shape_of-words-in-Bad : goal.shape_of-words-in-Bad
-shape_of-words-in-Bad c = refl
+pub shape_of-words-in_err-line : goal.shape_of-words-in_err-line
+shape_of-words-in_err-line c = refl
 
-pub returns-in-Bad : goal.returns-in-Bad
+pub returns-in_err-line : goal.returns-in_err-line
 unfolding pair_line
-returns-in-Bad c =
+returns-in_err-line c =
     line_refused (let p = c.requires.1 in
-    c.pair_line-line.ensures.result_value (so_far _) (copy_step c.args.kind) (step_placed _ p _ c.step_place-place.ensures) (copy_paired _ (so_far_counted _ p _ c.counts_of-counts.ensures) c.limits_of-limits.ensures)) refl (ap (pair_line (copy_step _)) c.in-Bad.is)
+    c.pair_line.ensures.result_value (so_far _) (copy_step c.args.kind) (step_placed _ p _ c.step_place-place.ensures) (copy_paired _ (so_far_counted _ p _ c.counts_of-counts.ensures) c.limits_of-limits.ensures)) _ c.from_residual.ensures.1 refl (ap (pair_line (copy_step _)) c.in_err-line.was)
 
-pub shape_of-words-in-Good : goal.shape_of-words-in-Good
-shape_of-words-in-Good c = c.add_step.ensures.same_length
+pub shape_of-words : goal.shape_of-words
+shape_of-words c = c.add_step.ensures.same_length
 
-pub returns-in-Good : goal.returns-in-Good
+pub returns : goal.returns
 unfolding pair_line step_of
-returns-in-Good c =
+returns c =
     line_accepted (let p = c.requires.1 in
-    c.pair_line-line.ensures.result_value (so_far _) (copy_step c.args.kind) (step_placed _ p _ c.step_place-place.ensures) (copy_paired _ (so_far_counted _ p _ c.counts_of-counts.ensures) c.limits_of-limits.ensures)) c.requires.1 (ap (pair_line (copy_step _)) c.in-Good.is) (pair_clear c.pair_line-line.ensures.clear c.in-Good.is).0.inside c.add_step.ensures
+    c.pair_line.ensures.result_value (so_far _) (copy_step c.args.kind) (step_placed _ p _ c.step_place-place.ensures) (copy_paired _ (so_far_counted _ p _ c.counts_of-counts.ensures) c.limits_of-limits.ensures)) c.requires.1 (ap (pair_line (copy_step _)) c.in_ok-line.was) c.in_ok-line.ensures.clear.0.inside c.add_step.ensures

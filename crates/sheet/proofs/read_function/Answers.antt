@@ -5,50 +5,50 @@ use native.Mathlib.Omega.{arith}
 use Rattle.records.specs.Records.{function_line}
 use Rattle.loaded.specs.Loaded.{so_far}
 use Rattle.sheet.proofs.LawsProgress.{size_of, blank_of, function_placed}
-use Rattle.sheet.proofs.LawsJudged.{line_refused, line_accepted, function_clear}
+use Rattle.sheet.proofs.LawsJudged.{line_refused, line_accepted}
 use Rattle.sheet.proofs.read_function.Goals as goal
 
 pub progress-reached-requires : goal.progress-reached-requires
 progress-reached-requires c = size_of _ c.requires.1
 
-pub function_line-line-requires : goal.function_line-line-requires
-function_line-line-requires c = c.requires.0
+pub function_line-requires : goal.function_line-requires
+function_line-requires c = c.requires.0
 
-pub overflow_cast-regs : goal.overflow_cast-regs
-overflow_cast-regs c = let w = (function_clear c.function_line-line.ensures.clear c.in-Good.is).1 in omega arith
+pub overflow_cast-line : goal.overflow_cast-line
+overflow_cast-line c = let w = c.in_ok-line.ensures.clear.1 in omega arith
 
-pub overflow_cast-slots : goal.overflow_cast-slots
-overflow_cast-slots c = let w = (function_clear c.function_line-line.ensures.clear c.in-Good.is).1 in omega arith
+pub overflow_cast-line-2 : goal.overflow_cast-line-2
+overflow_cast-line-2 c = let w = c.in_ok-line.ensures.clear.1 in omega arith
 
-pub overflow_cast-vregs : goal.overflow_cast-vregs
-overflow_cast-vregs c = let w = (function_clear c.function_line-line.ensures.clear c.in-Good.is).1 in omega arith
+pub overflow_cast-line-3 : goal.overflow_cast-line-3
+overflow_cast-line-3 c = let w = c.in_ok-line.ensures.clear.1 in omega arith
 
-pub overflow_cast-blocks : goal.overflow_cast-blocks
-overflow_cast-blocks c = let w = (function_clear c.function_line-line.ensures.clear c.in-Good.is).1 in omega arith
+pub overflow_cast-line-4 : goal.overflow_cast-line-4
+overflow_cast-line-4 c = let w = c.in_ok-line.ensures.clear.1 in omega arith
 
-pub overflow_cast-entry : goal.overflow_cast-entry
-overflow_cast-entry c = let w = (function_clear c.function_line-line.ensures.clear c.in-Good.is).1 in omega arith
+pub overflow_cast-line-5 : goal.overflow_cast-line-5
+overflow_cast-line-5 c = let w = c.in_ok-line.ensures.clear.1 in omega arith
 
 pub store_function-requires : goal.store_function-requires
 store_function-requires c =
-    (blank_of _ c.requires.1 c.progress-reached.ensures (function_clear c.function_line-line.ensures.clear c.in-Good.is).0.placed, (function_clear c.function_line-line.ensures.clear c.in-Good.is).1)
+    (blank_of _ c.requires.1 c.progress-reached.ensures c.in_ok-line.ensures.clear.0.placed, c.in_ok-line.ensures.clear.1)
 
 pub overflow_add-result : goal.overflow_add-result
 overflow_add-result c =
-    omega (arith, (function_clear c.function_line-line.ensures.clear c.in-Good.is).0.inside, c.requires.0.size)
+    omega (arith, c.in_ok-line.ensures.clear.0.inside, c.requires.0.size)
 
-pub shape_of-words-in-Bad : goal.shape_of-words-in-Bad
-shape_of-words-in-Bad c = refl
+pub shape_of-words-in_err-line : goal.shape_of-words-in_err-line
+shape_of-words-in_err-line c = refl
 
-pub returns-in-Bad : goal.returns-in-Bad
+pub returns-in_err-line : goal.returns-in_err-line
 unfolding function_line
-returns-in-Bad c =
-    line_refused (c.function_line-line.ensures.result_value (so_far _) (function_placed _ c.requires.1 c.progress-reached.ensures)) refl (ap function_line c.in-Bad.is)
+returns-in_err-line c =
+    line_refused (c.function_line.ensures.result_value (so_far _) (function_placed _ c.requires.1 c.progress-reached.ensures)) _ c.from_residual.ensures.1 refl (ap function_line c.in_err-line.was)
 
-pub shape_of-words-in-Good : goal.shape_of-words-in-Good
-shape_of-words-in-Good c = c.store_function.ensures.same_length
+pub shape_of-words : goal.shape_of-words
+shape_of-words c = c.store_function.ensures.same_length
 
-pub returns-in-Good : goal.returns-in-Good
+pub returns : goal.returns
 unfolding function_line
-returns-in-Good c =
-    line_accepted (c.function_line-line.ensures.result_value (so_far _) (function_placed _ c.requires.1 c.progress-reached.ensures)) c.requires.1 (ap function_line c.in-Good.is) (function_clear c.function_line-line.ensures.clear c.in-Good.is).0.inside c.store_function.ensures
+returns c =
+    line_accepted (c.function_line.ensures.result_value (so_far _) (function_placed _ c.requires.1 c.progress-reached.ensures)) c.requires.1 (ap function_line c.in_ok-line.was) c.in_ok-line.ensures.clear.0.inside c.store_function.ensures

@@ -13,7 +13,8 @@ use Rattle.fields.specs.Fields.{line_at, field_at, fields_behind}
 use Rattle.records.specs.Records.{Behind}
 use Rattle.loaded.specs.Actions.{copy_step}
 use Rattle.sheet.specs.Reading.{SheetText, LineRead, Progress}
-use Rattle.sheet.specs.declared.Lined as Lined
+use Rattle.std.specs.declared.result.Result.{Result}
+use Rattle.records.specs.declared.Breach.{Breach}
 use Rattle.sheet.proofs.read_line.Goals as goal
 
 -- what each letter's reader asks
@@ -23,7 +24,7 @@ ready t h p e letter is some = (behind_letter _ _ h (λ z. some (sym is ∙ (e �
 
 -- what it gives is what the line gives
 lined : {s : List ℕ} {at x : ℕ} → SheetText s → at < length s → x ≡ one_byte (field_at s at) → (letter : ℕ) → x ≡ letter → (letter ≡ 0 → ⊥)
-    → {l l' : List ℕ} {r : Lined.Lined} → LineRead (by_letter letter (fields_behind s (at + 1))) s (at + 1) l l' r
+    → {l l' : List ℕ} {r : Result ℕ Breach} → LineRead (by_letter letter (fields_behind s (at + 1))) s (at + 1) l l' r
     → LineRead (record_of (fields (line_at s at))) s at l l' r
 lined t h e letter is some line = read_by_letter _ _ t h letter (sym e ∙ is) some _ refl line
 
