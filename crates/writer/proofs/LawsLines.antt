@@ -8,10 +8,10 @@ use native.Mathlib.Numerals.{add-one}
 use native.Mathlib.Omega.{arith}
 use borrow.Author.Tests.{le-leb, lt-leb}
 use lib.Dec.{eqb}
-use lib.ListN.{length, get_or, drop}
+use lib.ListN.{length, get_or, drop, take}
 use lib.Seq.{drop-cons, drop-length}
 use lib.Count.{count_trailing_zeros}
-use Rattle.lists.specs.Region.{region}
+use Rattle.lists.specs.Region.{region, length_region}
 use Rattle.lists.specs.Regions.{region_none, region_cons}
 use Rattle.lists.specs.Bits.{set_bits, bits_from, lowest, no_bits}
 use Rattle.paper.specs.Text.{Bytes, tab, digits, name_text}
@@ -92,17 +92,26 @@ module _ (l : List ℕ) (at n : ℕ) where
   unfolding numbers_text
   numbers_all = let place : at + 0 ≡ at = omega arith in let count : n - 0 ≡ n = omega arith in rw (place, count)
 
-  pub operands_next : (i : ℕ) → i < n → at + n ≤ length l
-      → operands_text (region (at + i) (n - i) l) ≡ operand_text (get_or l (at + i) 0) ++ operands_text (region (at + (i + 1)) (n - (i + 1)) l)
-  operands_next = region_next operands_text operand_text operands_unfold l at n
+module _ (ws : List ℕ) where
+  pub operands_next : (i : ℕ) → i < length ws → operands_text (drop i ws) ≡ operand_text (get_or ws i 0) ++ operands_text (drop (i + 1) ws)
+  operands_next i h = rw (add-one i, drop-cons ws i 0 h) (operands_unfold (get_or ws i 0) (drop (suc i) ws))
 
-  pub operands_end : (i : ℕ) → i ≡ n → operands_text (region (at + i) (n - i) l) ≡ []
+  pub operands_end : (i : ℕ) → i ≡ length ws → operands_text (drop i ws) ≡ []
   unfolding operands_text row operand_texts
-  operands_end i e = let none : n - i ≡ 0 = omega arith in rw (none, region_none)
+  operands_end i e = rw (e, drop-length ws)
 
-  pub operands_all : operands_text (region (at + 0) (n - 0) l) ≡ row (operand_texts (operands at n l))
+-- the part of the words that the n operands from `at` on are
+module _ (l : List ℕ) (at n : ℕ) where
+  part_is : take (at + n - at) (drop at l) ≡ region at n l
+  unfolding region
+  part_is = let count : at + n - at ≡ n = omega arith in rw count
+
+  pub length_part : at + n ≤ length l → length (take (at + n - at) (drop at l)) ≡ n
+  length_part h = rw part_is (length_region at n l h)
+
+  pub operands_all : operands_text (take (at + n - at) (drop at l)) ≡ row (operand_texts (operands at n l))
   unfolding operands_text operands
-  operands_all = let place : at + 0 ≡ at = omega arith in let count : n - 0 ≡ n = omega arith in rw (place, count)
+  operands_all = rw part_is
 
 -- the slots of a mask
 

@@ -65,15 +65,13 @@ fn fits(words: &[u16]) -> bool
     if MAX_BLOCKS < opened {
         return false;
     }
-    let mut b = 0;
-    while b < opened {
+    for b in 0..opened {
         if MAX_SUCCS < loaded::succ_total(words, b) {
             return false;
         }
         if MAX_STEPS < loaded::first_step(words, b) + loaded::step_total(words, b) {
             return false;
         }
-        b += 1;
     }
     true
 }
@@ -128,10 +126,8 @@ fn write_all_typed(typed: &[u16], text: &mut [u8], at: usize) -> usize
     ensures { Wrote text.old at (records_text (map typed_record (marked_from 0 typed.now))) text.new result × (result ≤ at + 8 * typed_words) }
 {
     let mut next = at;
-    let mut n = 0;
-    while n < TYPED_WORDS {
-        next = write_typed(text, next, n as u32, typed[n]);
-        n += 1;
+    for (n, &word) in typed.iter().enumerate() {
+        next = write_typed(text, next, n as u32, word);
     }
     next
 }
@@ -143,11 +139,9 @@ fn write_successors(words: &[u16], b: usize, text: &mut [u8], at: usize) -> usiz
 {
     let total = loaded::succ_total(words, b);
     let mut next = at;
-    let mut i = 0;
-    while i < total {
+    for i in 0..total {
         let successor = loaded::successor(words, b, i);
         next = fields::write_before_number(text, next, b'\t', successor as u32);
-        i += 1;
     }
     next
 }
@@ -180,12 +174,9 @@ fn write_operands(words: &[u16], from: usize, n: usize, text: &mut [u8], at: usi
     ensures { Wrote text.old at (row (operand_texts (operands from n words.now))) text.new result × (result ≤ at + 11 * n) }
 {
     let mut next = at;
-    let mut i = 0;
-    while i < n {
-        let w = words[from + i];
+    for &w in &words[from..from + n] {
         let a = write_name(text, next, w);
         next = write_register(text, a, w / REGISTER);
-        i += 1;
     }
     next
 }
@@ -302,10 +293,8 @@ fn write_steps(words: &[u16], first: usize, total: usize, text: &mut [u8], at: u
     ensures { Filled text.old at (records_text (map step_record (steps_at words.now first total))) text.new result }
 {
     let mut next = at;
-    let mut i = 0;
-    while i < total {
+    for i in 0..total {
         next = write_step(words, first + i, text, next);
-        i += 1;
     }
     next
 }
@@ -342,10 +331,8 @@ fn write_blocks(words: &[u16], text: &mut [u8], at: usize) -> usize
     let reached = loaded::progress(words);
     let opened = reached.opened;
     let mut next = at;
-    let mut b = 0;
-    while b < opened {
+    for b in 0..opened {
         next = write_block(words, b, text, next);
-        b += 1;
     }
     next
 }
@@ -379,10 +366,7 @@ fn lay(text: &[u8], out: &mut [u8])
     requires { length text.now ≤ length out.old }
     ensures { out.new ≡ laid text.now out.old }
 {
-    let mut i = 0;
-    while i < text.len() {
-        i = fields::write_byte(out, i, text[i]);
-    }
+    out[..text.len()].copy_from_slice(text);
 }
 
 // Writes the sheet whose loaded form the words hold to the start of the lent buffer. A form that no sheet gives is refused, then a buffer

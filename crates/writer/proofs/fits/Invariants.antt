@@ -9,6 +9,3 @@ use Rattle.writer.proofs.fits.Given as goal
 abbrev pub invariant-loop-b : goal.invariant-loop-b
 invariant-loop-b l =
     (l.b ≤ l.opened) × (l.opened ≤ max_blocks) × (words_size ≤ length l.words) × (fits l.words ≡ blocks_fit l.words l.b (l.opened - l.b))
-
-abbrev pub decreases-loop-b : goal.decreases-loop-b
-decreases-loop-b l = l.opened - l.b

@@ -18,9 +18,6 @@ write_block-next-requires c = let inv = c.loop-b.invariant in
     let f = fitting _ inv.2 in
     (f.size, omega (arith, f.opened, inv.1), f.each _ (omega (arith, inv.1, c.loop-b-test.true)), omega arith)
 
-pub overflow_add-b : goal.overflow_add-b
-overflow_add-b c = omega (arith, (fitting _ c.loop-b.invariant.2).opened)
-
 pub loop-b-preserved : goal.loop-b-preserved
 loop-b-preserved c = let inv = c.loop-b.invariant in
     let filled = c.write_block-next.ensures in (

@@ -17,6 +17,3 @@ invariant-loop-i l =
     (l.i ≤ l.total) × (l.total ≤ max_succs) × (l.b < max_blocks) × (words_size ≤ length l.words) × (l.next ≤ l.at + 6 * l.i)
     × (l.at + 48 ≤ length l.initial.text) × (length l.text ≡ length l.initial.text)
     × Finishes l.initial.text l.at (row (map digits (region (succ_base l.b) l.total l.words))) l.text l.next (numbers_text (region (succ_base l.b + l.i) (l.total - l.i) l.words))
-
-abbrev pub decreases-loop-i : goal.decreases-loop-i
-decreases-loop-i l = l.total - l.i
