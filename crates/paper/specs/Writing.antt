@@ -1,6 +1,6 @@
 -- Document 02, A6: "the writer: from the loaded form back to sheet text". "A sheet has one spelling": each record has one line, and the
 -- records of a sheet one order. What a call that writes a sheet answers, and what the lent buffer holds afterwards.
-use Rattle.std.specs.Prelude.{Bool, true, false, cond, List, [], ◌∷◌, ◌++◌, map, ℕ, ltb, length}
+use Rattle.std.specs.Prelude.{Result, Ok, Err, Bool, true, false, cond, List, [], ◌∷◌, ◌++◌, map, ℕ, ltb, length}
 use Rattle.std.proofs.Math.Option.{Option, none, some}
 use Prim.Native.Char.{code}
 use Rattle.paper.specs.Text.{Bytes, digits, name_text}
@@ -8,8 +8,8 @@ use Rattle.paper.specs.Sheet.{Operand, spill, reload, move, change, operation, s
 use Rattle.paper.specs.Refusals.{Record, function_record, typed_record, block_record, step_record, Reading, loaded, refused, read}
 use Rattle.paper.specs.Report.{nothing, behind_tabs}
 use Rattle.paper.specs.Answer.{laid}
-use Rattle.paper.specs.declared.Written.{Written}
-use Rattle.paper.specs.declared.Written.TheVariants.{Text, NoSheet, NoRoom}
+use Rattle.paper.specs.declared.Unwritten.{Unwritten}
+use Rattle.paper.specs.declared.Unwritten.TheVariants.{NoSheet, NoRoom}
 
 -- a register's number, or `-` for none
 unfoldable pub allocation_text : Option ℕ → Bytes
@@ -74,15 +74,15 @@ is_read (refused refusal) = false
 
 -- what is answered, and the lent buffer afterwards
 pub record SheetOut : Type 0 where
-  pub answer : Written
+  pub answer : Result ℕ Unwritten
   pub out : List ℕ
 
 -- "a buffer shorter than the text" is refused; "Bytes after the text stay."
 unfoldable pub room_outcome : Bytes → List ℕ → SheetOut
 room_outcome text out =
-    cond (ltb (length out) (length text)) (record { answer = NoRoom; out = out }) (record { answer = Text (length text); out = laid text out })
+    cond (ltb (length out) (length text)) (record { answer = Err NoRoom; out = out }) (record { answer = Ok (length text); out = laid text out })
 
 -- "A loaded form that no sheet gives is refused first": one whose text is turned away, since no sheet has another text; "either writes
 -- nothing"
 unfoldable pub sheet_outcome : Sheet → List ℕ → SheetOut
-sheet_outcome S out = cond (is_read (read (sheet_text S))) (room_outcome (sheet_text S) out) (record { answer = NoSheet; out = out })
+sheet_outcome S out = cond (is_read (read (sheet_text S))) (room_outcome (sheet_text S) out) (record { answer = Err NoSheet; out = out })

@@ -63,10 +63,9 @@ pub enum Seal {
     None,
 }
 
-// What writing a loaded form comes to: its text stands, of so many bytes; no sheet gives it; or the buffer has no room for its text.
-#[derive(Clone, Copy)]
-pub enum Written {
-    Text(usize),
+// Why a loaded form is not written: no sheet gives it, or the buffer has no room for its text.
+#[derive(Clone, Copy, PartialEq, Eq)]
+pub enum Unwritten {
     NoSheet,
     NoRoom,
 }

@@ -1,7 +1,7 @@
 -- "A sheet has one spelling" (document 02, A6), over the definitions alone. Bytes that are read are the text of what they load as; so two
 -- sheets that load alike are the same bytes, and the text of whatever some sheet gives is read as it again. And the other way: where the
 -- text of a sheet whose numbers have at most five digits is read, it is read as that sheet.
-use Rattle.std.specs.Prelude.{◌≡◌, refl, Bool, true, false, cond, List, [], ◌∷◌, ◌++◌, map, ℕ, suc, ltb, length, take, drop}
+use Rattle.std.specs.Prelude.{Result, Ok, Err, ◌≡◌, refl, Bool, true, false, cond, List, [], ◌∷◌, ◌++◌, map, ℕ, suc, ltb, length, take, drop}
 use Rattle.std.proofs.Common.{sym, ap, ◌∙◌, true≢false, append-nil, append_assoc, arith, eqb-true, take_at}
 use Rattle.std.proofs.Math.Option.{Option, none, some}
 use Rattle.std.proofs.lemmas.Bool.{not-false}
@@ -12,8 +12,8 @@ use Rattle.paper.specs.Limits.{max_sheet}
 use Rattle.paper.specs.Refusals.{Record, record_of, empty, out_of_place, so_far_of, first_holding, conditions, add_record, Reading, loaded, refused, Lined, good, bad, judged, read_record, read_line, read_end, carry_on, read_lines, no_text, read}
 use Rattle.paper.specs.Writing.{record_text, records_text, records_of, sheet_text, is_read, SheetOut, room_outcome, sheet_outcome}
 use Rattle.paper.specs.Answer.{laid}
-use Rattle.paper.specs.declared.Written.{Written}
-use Rattle.paper.specs.declared.Written.TheVariants.{Text, NoSheet, NoRoom}
+use Rattle.paper.specs.declared.Unwritten.{Unwritten}
+use Rattle.paper.specs.declared.Unwritten.TheVariants.{NoSheet, NoRoom}
 use Rattle.paper.specs.declared.Refusal.{Refusal}
 use Rattle.spelling.specs.Parted.{closed_lines, joined_fields, joined_lines}
 use Rattle.spelling.specs.Spelled.{record_spelled}
@@ -138,10 +138,10 @@ read_again S R h e =
 
 -- what writing comes to
 
-answer_number : Written → ℕ
-answer_number (Text n) = 1
-answer_number NoSheet = 0
-answer_number NoRoom = 0
+answer_number : Result ℕ Unwritten → ℕ
+answer_number (Ok n) = 1
+answer_number (Err NoSheet) = 0
+answer_number (Err NoRoom) = 0
 
 read_true : (R : Reading) (S : Sheet) → R ≡ loaded S → is_read R ≡ true
 unfolding is_read
@@ -168,21 +168,21 @@ unfolding sheet_outcome
 own_bytes t S out e = rw (given_read t S e, ← read_text t S e)
 
 -- "Reading what it writes gives the loaded form again"
-pub written_again : (S : Sheet) (out after : List ℕ) (n : ℕ) → ShortSheet S → sheet_outcome S out ≡ record { answer = Text n; out = after }
+pub written_again : (S : Sheet) (out after : List ℕ) (n : ℕ) → ShortSheet S → sheet_outcome S out ≡ record { answer = Ok n; out = after }
     → read (take n after) ≡ loaded S
 unfolding sheet_outcome room_outcome laid answer_number
 written_again S out after n h e = go (is_read (read (sheet_text S))) refl (ltb (length out) (length (sheet_text S))) e
   where
-    said : Written → List ℕ → SheetOut
+    said : Result ℕ Unwritten → List ℕ → SheetOut
     said answer buffer = record { answer = answer; out = buffer }
 
     go : (b : Bool) → is_read (read (sheet_text S)) ≡ b → (c : Bool)
-        → cond b (cond c (said NoRoom out) (said (Text (length (sheet_text S))) (laid (sheet_text S) out))) (said NoSheet out) ≡ said (Text n) after
+        → cond b (cond c (said (Err NoRoom) out) (said (Ok (length (sheet_text S))) (laid (sheet_text S) out))) (said (Err NoSheet) out) ≡ said (Ok n) after
         → read (take n after) ≡ loaded S
     go false p c f = absurd (let z : ◌≡◌ {A = ℕ} 0 1 = ap (λ (o : SheetOut). answer_number o.answer) f in omega arith)
     go true p true f = absurd (let z : ◌≡◌ {A = ℕ} 0 1 = ap (λ (o : SheetOut). answer_number o.answer) f in omega arith)
     go true p false f =
-        let count : Text (length (sheet_text S)) ≡ Text n = ap (λ (o : SheetOut). o.answer) f in
+        let count : Ok (length (sheet_text S)) ≡ Ok n = ap (λ (o : SheetOut). o.answer) f in
         let number : n ≡ length (sheet_text S) = cc in
         let text : laid (sheet_text S) out ≡ after = ap (λ (o : SheetOut). o.out) f in
         rw (← text, take_at (sheet_text S) (drop (length (sheet_text S)) out) n (sym number)) (read_exactly S h p)

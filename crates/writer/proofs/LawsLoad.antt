@@ -1,4 +1,5 @@
 -- Words that a sheet was loaded into hold its form, and what the loading call leaves, answer by answer.
+use Rattle.std.specs.Prelude.{Result, Ok, Err}
 use mathlib.Core.Path.{◌≡◌, refl, sym, ap, ◌∙◌}
 use mathlib.Core.Bool.{true}
 use mathlib.Core.List.{List}
@@ -13,8 +14,8 @@ use Rattle.paper.specs.Limits.{max_blocks, max_succs, max_steps, words_size}
 use Rattle.paper.specs.Refusals.{Reading, loaded, refused, read}
 use Rattle.paper.specs.Answer.{zeros}
 use Rattle.paper.specs.Writing.{SheetOut, room_outcome}
-use Rattle.paper.specs.declared.Written.{Written}
-use Rattle.paper.specs.declared.Written.TheVariants.{Text, NoSheet}
+use Rattle.paper.specs.declared.Unwritten.{Unwritten}
+use Rattle.paper.specs.declared.Unwritten.TheVariants.{NoSheet}
 use Rattle.paper.specs.declared.Refusal.{Refusal}
 use Rattle.layout.specs.Layout.{opened_word, steps_word}
 use Rattle.loaded.specs.Loaded.{first_step, step_total, succ_total, sheet_of, BlockBounds, Loaded}
@@ -91,13 +92,13 @@ module _ {sheet : Bytes} {before after : List ℕ} {r : Loading} (size : words_s
 
 -- a sheet written back
 
-abbrev said : Written → List ℕ → SheetOut
+abbrev said : Result ℕ Unwritten → List ℕ → SheetOut
 said answer after = record { answer = answer; out = after }
 
-no_text : {Q : Type 0} {n : ℕ} → NoSheet ≡ Text n → Q
+no_text : {Q : Type 0} {n : ℕ} → (Err NoSheet) ≡ Ok n → Q
 no_text q = let z : ◌≡◌ {A = ℕ} 0 1 = cc in absurd (omega arith)
 
-pub back_short : (sheet : Bytes) (words out : List ℕ) → length words < words_size → WrittenBack sheet words out words out NoSheet
+pub back_short : (sheet : Bytes) (words out : List ℕ) → length words < words_size → WrittenBack sheet words out words out (Err NoSheet)
 back_short sheet words out h = record {
   short = λ p. (refl, refl, refl);
   back = λ p. absurd (omega arith);
@@ -116,7 +117,7 @@ loaded_only (loaded S) e k = k S refl
 loaded_only (refused q) e k = let z : ◌≡◌ {A = ℕ} 0 1 = cc in absurd (omega arith)
 
 module _ {sheet : Bytes} {before after : List ℕ} {r : Loading} (size : words_size ≤ length before) (l : SheetLoaded sheet before after r) (out : List ℕ) where
-  pub back_refused : (refusal : Refusal) → r ≡ loading.Refused refusal → WrittenBack sheet before out after out NoSheet
+  pub back_refused : (refusal : Refusal) → r ≡ loading.Refused refusal → WrittenBack sheet before out after out (Err NoSheet)
   unfolding back_outcome
   back_refused refusal e = refused_only (read sheet) refusal (sym e ∙ l.answer size) λ q p. record {
     short = λ h. absurd (omega arith);
@@ -125,7 +126,7 @@ module _ {sheet : Bytes} {before after : List ℕ} {r : Loading} (size : words_s
     within = λ n f. no_text f;
   }
 
-  pub back_written : (written : Written) (out' later : List ℕ) → r ≡ loading.Loaded → said written out' ≡ form_outcome (form_of after) out
+  pub back_written : (written : Result ℕ Unwritten) (out' later : List ℕ) → r ≡ loading.Loaded → said written out' ≡ form_outcome (form_of after) out
       → later ≡ replicate (length after) 0 → WrittenBack sheet before out later out' written
   unfolding back_outcome form_outcome zeros
   back_written written out' later e w z = loaded_only (read sheet) (sym e ∙ l.answer size) λ S p.
@@ -134,7 +135,7 @@ module _ {sheet : Bytes} {before after : List ℕ} {r : Loading} (size : words_s
         short = λ h. absurd (omega arith);
         back = λ h. rw p own;
         cleared = λ h. z ∙ ap (λ (n : ℕ). replicate n 0) l.same_length;
-        within = λ n f. text_within sheet out out' n (sym own ∙ ap (λ (a : Written). said a out') f);
+        within = λ n f. text_within sheet out out' n (sym own ∙ ap (λ (a : Result ℕ Unwritten). said a out') f);
       }
 
 pub load_exported : {sheet : Bytes} {before after : List ℕ} {r : Loading} {v : LoadVerdict} → SheetLoaded sheet before after r → v ≡ load_verdict_of r

@@ -1,5 +1,6 @@
 -- What is known of the calls, over their promises: what is written is read back as the form that the words hold; words that a sheet was
 -- loaded into are written as that sheet's own bytes; no sheet gives a form exactly where the answer is that none does; one outcome only.
+use Rattle.std.specs.Prelude.{Result, Ok}
 use mathlib.Core.Path.{◌≡◌, sym, ap, ◌∙◌}
 use mathlib.Core.Bool.{Bool, true, false, cond}
 use mathlib.Core.List.{List}
@@ -13,8 +14,7 @@ use Rattle.paper.specs.Sheet.{Sheet}
 use Rattle.paper.specs.Limits.{words_size}
 use Rattle.paper.specs.Refusals.{loaded, read}
 use Rattle.paper.specs.Writing.{SheetOut, room_outcome, sheet_outcome}
-use Rattle.paper.specs.declared.Written.{Written}
-use Rattle.paper.specs.declared.Written.TheVariants.{Text}
+use Rattle.paper.specs.declared.Unwritten.{Unwritten}
 use Rattle.loaded.specs.Loaded.{sheet_of, Loaded}
 use Rattle.spelling.specs.Theorems.{own_bytes, written_again}
 use Rattle.writer.specs.Form.{fits, form_of, form_outcome, WriteExported}
@@ -33,11 +33,11 @@ form_sheet words S e = go (fits words) e
 
 -- "Reading what it writes gives the loaded form again"
 pub written_read : (words out after : List ℕ) (n : ℕ) (S : Sheet) → All Word words → form_of words ≡ some S
-    → ◌≡◌ {A = SheetOut} (record { answer = Text n; out = after }) (form_outcome (form_of words) out) → read (take n after) ≡ loaded S
+    → ◌≡◌ {A = SheetOut} (record { answer = Ok n; out = after }) (form_outcome (form_of words) out) → read (take n after) ≡ loaded S
 unfolding form_outcome
 written_read words out after n S a f e =
     let q : S ≡ sheet_of words = form_sheet words S f in
-    let o : sheet_outcome S out ≡ record { answer = Text n; out = after } = sym (rw f at e) in
+    let o : sheet_outcome S out ≡ record { answer = Ok n; out = after } = sym (rw f at e) in
     written_again S out after n (rw q (words_short words a)) o
 
 -- "writing what was read from an accepted or faulty sheet gives that sheet's own bytes"
@@ -48,7 +48,7 @@ loaded_written t words out size l e = rw (loaded_form words size l) (own_bytes t
 
 -- one outcome only
 
-pub write_one_outcome : (words before after later : List ℕ) (r s : Written)
+pub write_one_outcome : (words before after later : List ℕ) (r s : Result ℕ Unwritten)
     → ◌≡◌ {A = SheetOut} (record { answer = r; out = after }) (form_outcome (form_of words) before)
     → ◌≡◌ {A = SheetOut} (record { answer = s; out = later }) (form_outcome (form_of words) before) → (r ≡ s) × (after ≡ later)
 write_one_outcome words before after later r s p q = (ap (λ (o : SheetOut). o.answer) (p ∙ sym q), ap (λ (o : SheetOut). o.out) (p ∙ sym q))

@@ -1,6 +1,6 @@
 -- What loaded words of any length and content hold: the sheet that stands in them, where they have the published size and no count in them
 -- goes beyond the room that they have for it; and what writing it answers.
-use Rattle.std.specs.Prelude.{◌≡◌, Bool, true, cond, ◌&&◌, List, [], ◌∷◌, ◌++◌, ℕ, zero, suc, ◌+◌, ◌≤◌, eqb, leb, length, get_or}
+use Rattle.std.specs.Prelude.{Result, Ok, Err, ◌≡◌, Bool, true, cond, ◌&&◌, List, [], ◌∷◌, ◌++◌, ℕ, zero, suc, ◌+◌, ◌≤◌, eqb, leb, length, get_or}
 use Rattle.std.proofs.Math.Option.{Option, none, some}
 use Rattle.paper.specs.Text.{Bytes, digits}
 use Rattle.paper.specs.Sheet.{Operand, Sheet}
@@ -8,8 +8,8 @@ use Rattle.paper.specs.Limits.{max_blocks, max_succs, max_steps, words_size}
 use Rattle.paper.specs.Refusals.{Record, function_record, typed_record}
 use Rattle.paper.specs.Report.{behind_tabs}
 use Rattle.paper.specs.Writing.{operand_texts, record_text, SheetOut, sheet_outcome}
-use Rattle.paper.specs.declared.Written.{Written}
-use Rattle.paper.specs.declared.Written.TheVariants.{Text, NoSheet, NoRoom}
+use Rattle.paper.specs.declared.Unwritten.{Unwritten}
+use Rattle.paper.specs.declared.Unwritten.TheVariants.{NoSheet, NoRoom}
 use Rattle.layout.specs.Layout.{regs_word, slots_word, vregs_word, blocks_word, entry_word, opened_word}
 use Rattle.loaded.specs.Loaded.{first_step, step_total, succ_total, sheet_of}
 use Rattle.loaded.specs.declared.CopyKind.{CopyKind}
@@ -36,14 +36,14 @@ form_of words = cond (fits words) (some (sheet_of words)) none
 
 -- words that hold no form hold none that a sheet gives
 unfoldable pub form_outcome : Option Sheet → List ℕ → SheetOut
-form_outcome none out = record { answer = NoSheet; out = out }
+form_outcome none out = record { answer = Err NoSheet; out = out }
 form_outcome (some S) out = sheet_outcome S out
 
 -- over the C interface: 0 written, 1 no sheet gives the form, 2 the buffer is too short
-unfoldable pub verdict_of : Written → WriteVerdict
-verdict_of (Text n) = record { answer = 0; length = n }
-verdict_of NoSheet = record { answer = 1; length = 0 }
-verdict_of NoRoom = record { answer = 2; length = 0 }
+unfoldable pub verdict_of : Result ℕ Unwritten → WriteVerdict
+verdict_of (Ok n) = record { answer = 0; length = n }
+verdict_of (Err NoSheet) = record { answer = 1; length = 0 }
+verdict_of (Err NoRoom) = record { answer = 2; length = 0 }
 
 pub record WriteExported (words before after : List ℕ) (r : WriteVerdict) : Type 0 where
   pub answer : r ≡ verdict_of (form_outcome (form_of words) before).answer

@@ -28,7 +28,7 @@ use layout::{
     WORDS_SIZE,
 };
 use loaded::{Action, CopyKind, Counts, NO_REGISTER, REGISTER};
-use paper::{Refusal, TOO_SHORT, Written};
+use paper::{Refusal, TOO_SHORT, Unwritten};
 use sheet::Loading;
 
 // The text's room: a sheet's size, and a line more, so that what is too long is seen to be.
@@ -371,25 +371,25 @@ fn lay(text: &[u8], out: &mut [u8])
 
 // Writes the sheet whose loaded form the words hold to the start of the lent buffer. A form that no sheet gives is refused, then a buffer
 // shorter than the text; either writes nothing, and bytes behind the text stay.
-pub fn write_sheet(words: &[u16], out: &mut [u8]) -> Written
+pub fn write_sheet(words: &[u16], out: &mut [u8]) -> Result<usize, Unwritten>
     ensures { record { answer = result; out = out.new } ≡ form_outcome (form_of words.now) out.old }
 {
     if !fits(words) {
-        return Written::NoSheet;
+        return Err(Unwritten::NoSheet);
     }
     let mut text = [0u8; TEXT_ROOM];
     let length = write_text(words, &mut text);
     if MAX_SHEET < length {
-        return Written::NoSheet;
+        return Err(Unwritten::NoSheet);
     }
     if !is_read(&text[..length]) {
-        return Written::NoSheet;
+        return Err(Unwritten::NoSheet);
     }
     if out.len() < length {
-        return Written::NoRoom;
+        return Err(Unwritten::NoRoom);
     }
     lay(&text[..length], out);
-    Written::Text(length)
+    Ok(length)
 }
 
 // Loads a sheet, so that a caller can hold its loaded form. Fewer words than the published size are refused by 1, and nothing changes; a
@@ -415,15 +415,15 @@ pub fn load_sheet(sheet: &[u8], words: &mut [u16]) -> Loading
 }
 
 // Loads a sheet and writes it back: its own bytes stand at the start of the lent buffer, and all words are zero.
-pub fn write_back(sheet: &[u8], words: &mut [u16], out: &mut [u8]) -> Written
+pub fn write_back(sheet: &[u8], words: &mut [u16], out: &mut [u8]) -> Result<usize, Unwritten>
     ensures { WrittenBack sheet.now words.old out.old words.new out.new result }
 {
     if words.len() < WORDS_SIZE {
-        return Written::NoSheet;
+        return Err(Unwritten::NoSheet);
     }
     let loading = load_sheet(sheet, words);
     match loading {
-        Loading::Refused(refusal) => Written::NoSheet,
+        Loading::Refused(refusal) => Err(Unwritten::NoSheet),
         Loading::Loaded => {
             let written = write_sheet(words, out);
             scratch::clear_words(words);
@@ -458,16 +458,16 @@ pub extern "C" fn itanropen_load(sheet: &[u8], words: &mut [u16]) -> LoadVerdict
     load_verdict_of(loading)
 }
 
-fn verdict_of(written: Written) -> WriteVerdict
+fn verdict_of(written: Result<usize, Unwritten>) -> WriteVerdict
     ensures { result ≡ verdict_of written }
 {
     match written {
-        Written::Text(length) => WriteVerdict { answer: 0, length },
-        Written::NoSheet => WriteVerdict {
+        Ok(length) => WriteVerdict { answer: 0, length },
+        Err(Unwritten::NoSheet) => WriteVerdict {
             answer: 1,
             length: 0,
         },
-        Written::NoRoom => WriteVerdict {
+        Err(Unwritten::NoRoom) => WriteVerdict {
             answer: 2,
             length: 0,
         },
