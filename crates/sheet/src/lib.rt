@@ -242,7 +242,7 @@ pub fn load(sheet: &[u8], words: &mut [u16]) -> Result<(), Refusal>
             field: 0,
         });
     }
-    scratch::clear_words(&mut words[..BLOCK_BASE]);
+    scratch::clear(&mut words[..BLOCK_BASE]);
     let mut at = 0;
     let mut line: usize = 1;
     while at < sheet.len() {

@@ -13,15 +13,15 @@ no_text-requires c = tt
 pub returns-then-no_text : goal.returns-then-no_text
 returns-then-no_text c = no_sheet _ _ (sym c.no_text.ensures ∙ c.if-no_text.true)
 
-pub slice_bounds-clear_words-end-2 : goal.slice_bounds-clear_words-end-2
-slice_bounds-clear_words-end-2 c = sym (length-take-le block_base c.args.words.now (omega arith))
+pub slice_bounds-clear-end-2 : goal.slice_bounds-clear-end-2
+slice_bounds-clear-end-2 c = sym (length-take-le block_base c.args.words.now (omega arith))
 
-pub clear_words-requires : goal.clear_words-requires
-clear_words-requires c = tt
+pub clear-requires : goal.clear-requires
+clear-requires c = tt
 
 pub loop-at-init : goal.loop-at-init
 loop-at-init c =
-    ahead_at_first _ _ _ (sym c.no_text.ensures ∙ c.if-no_text.false) (cleared_blank c.args.words.now _ c.clear_words.ensures
+    ahead_at_first _ _ _ (sym c.no_text.ensures ∙ c.if-no_text.false) (cleared_blank c.args.words.now _ c.clear.ensures
     (omega (arith, c.requires))) refl
 
 pub read_line-requires : goal.read_line-requires
@@ -36,12 +36,12 @@ refusal_of-requires c =
 
 pub shape_of-words-in-Err : goal.shape_of-words-in-Err
 shape_of-words-in-Err c =
-    c.read_line.ensures.same_length ∙ (c.loop-at.invariant.same_length ∙ (cleared_length c.args.words.now _ c.clear_words.ensures
+    c.read_line.ensures.same_length ∙ (c.loop-at.invariant.same_length ∙ (cleared_length c.args.words.now _ c.clear.ensures
     (omega (arith, c.requires))))
 
 pub returns-in-Err : goal.returns-in-Err
 returns-in-Err c =
-    load_from _ (cleared_length c.args.words.now _ c.clear_words.ensures
+    load_from _ (cleared_length c.args.words.now _ c.clear.ensures
     (omega (arith, c.requires)))
     (line_bad c.loop-at.invariant c.loop-at-test.true c.in-Err.breach c.in-Err.ensures c.refusal_of.ensures)
 
@@ -66,19 +66,19 @@ pub blocks-requires : goal.blocks-requires
 blocks-requires c = (size_of _ c.loop-at.invariant.progress)
 
 pub shape_of-words-then-reached-blocks : goal.shape_of-words-then-reached-blocks
-shape_of-words-then-reached-blocks c = (c.loop-at.invariant.same_length ∙ (cleared_length c.args.words.now _ c.clear_words.ensures
+shape_of-words-then-reached-blocks c = (c.loop-at.invariant.same_length ∙ (cleared_length c.args.words.now _ c.clear.ensures
     (omega (arith, c.requires))))
 
 pub returns-then-reached-blocks : goal.returns-then-reached-blocks
 returns-then-reached-blocks c =
-    load_from _ (cleared_length c.args.words.now _ c.clear_words.ensures
+    load_from _ (cleared_length c.args.words.now _ c.clear.ensures
     (omega (arith, c.requires))) (too_few c.loop-at.invariant c.loop-at-test.false c.progress-reached.ensures c.blocks-2.ensures c.if-reached-blocks.true)
 
 pub shape_of-words : goal.shape_of-words
-shape_of-words c = (c.loop-at.invariant.same_length ∙ (cleared_length c.args.words.now _ c.clear_words.ensures
+shape_of-words c = (c.loop-at.invariant.same_length ∙ (cleared_length c.args.words.now _ c.clear.ensures
     (omega (arith, c.requires))))
 
 pub returns : goal.returns
 returns c =
-    load_from _ (cleared_length c.args.words.now _ c.clear_words.ensures
+    load_from _ (cleared_length c.args.words.now _ c.clear.ensures
     (omega (arith, c.requires))) (all_read c.loop-at.invariant c.loop-at-test.false c.progress-reached.ensures c.blocks-2.ensures c.if-reached-blocks.false)
