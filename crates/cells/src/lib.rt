@@ -130,10 +130,8 @@ fn overwritten(name: u16, w: u16) -> u16
 fn overwrite_row(row: &mut [u16; ROW_WORDS], name: u16)
     ensures { (n : ℕ) → n ≤ row_words → cells_of n row.new ≡ map (paper.overwritten (name_of_word name)) (cells_of n row.old) }
 {
-    let mut i = 0;
-    while i < ROW_WORDS {
-        row[i] = overwritten(name, row[i]);
-        i += 1;
+    for word in row.iter_mut() {
+        *word = overwritten(name, *word);
     }
 }
 
