@@ -207,10 +207,8 @@ fn safepoint_cell(rule: Rule, kept: u32, i: usize, w: u16) -> u16
 fn collect_row(rule: Rule, row: &mut [u16; ROW_WORDS], kept: u32)
     ensures { (n : ℕ) → n ≤ row_words → cells_of n row.new ≡ by_place (λ i c. cond (listed (set_bits kept) i) c (paper.collected rule c)) (cells_of n row.old) }
 {
-    let mut i = 0;
-    while i < ROW_WORDS {
-        row[i] = safepoint_cell(rule, kept, i, row[i]);
-        i += 1;
+    for (i, word) in row.iter_mut().enumerate() {
+        *word = safepoint_cell(rule, kept, i, *word);
     }
 }
 
