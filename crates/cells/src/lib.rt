@@ -258,11 +258,8 @@ fn row_stays(rule: Rule, words: &[u16], at: usize, row: &[u16; ROW_WORDS]) -> bo
     ensures { result ≡ true → (k : ℕ) → k < row_words → Stays at (meet_at rule row.now) words.now k }
 {
     let mut all = true;
-    let mut i = 0;
-    while i < ROW_WORDS {
-        let here = stays(rule, words[at + i], row[i]);
-        all = all & here;
-        i += 1;
+    for (i, &word) in row.iter().enumerate() {
+        all &= stays(rule, words[at + i], word);
     }
     all
 }
