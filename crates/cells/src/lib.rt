@@ -278,12 +278,9 @@ fn may_change(rule: Rule, words: &[u16], at: usize, row: &[u16; ROW_WORDS]) -> u
     ensures { (k : ℕ) → k < row_words → listed (set_bits result) k ≡ false → Stays at (meet_at rule row.now) words.now k }
 {
     let mut mask: u32 = 0;
-    let mut i = 0;
-    while i < ROW_WORDS {
-        let here = stays(rule, words[at + i], row[i]);
-        let bit = mask_unless(here, i);
-        mask = mask + bit;
-        i += 1;
+    for (i, &word) in row.iter().enumerate() {
+        let here = stays(rule, words[at + i], word);
+        mask += mask_unless(here, i);
     }
     mask
 }
