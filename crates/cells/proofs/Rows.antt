@@ -1,17 +1,19 @@
 -- Rows and states: the steps of the loops, and what two rows make of a state.
 use mathlib.Core.Path.{◌≡◌, refl, sym, ap, ap₂, ◌∙◌}
 use mathlib.Core.Bool.{Bool, true, false, cond, ◌&&◌, or-true, or-false}
-use mathlib.Core.List.{List, [], ◌∷◌, map}
+use mathlib.Core.List.{List, [], ◌∷◌, ◌++◌, map}
 use Prim.Native.Nat.{ℕ, zero, suc, ◌+◌, ◌-◌, ◌/◌, ◌%◌, ◌^◌, ◌≤◌, ◌<◌}
 use native.Mathlib.Nat.{zero-add, pow-suc, div-div-eq-div-mul, mul_comm, div-one, pow-zero, add-zero, add-suc}
 use native.Mathlib.Numerals.{add-one}
 use native.Mathlib.Omega.{arith}
 use borrow.Author.Tests.{eq-eqb, ne_eqb, eqb-true, eqb-false, not-false, le-ltb}
 use lib.Dec.{eqb}
-use lib.ListN.{length, get_or, set, take, length-take, length-map, replicate}
+use lib.ListN.{length, get_or, set, take, drop, length-take, length-map, replicate}
+use borrow.Rule.Slice.PartMut.{put_mid}
 use lib.Seq.{set-get_or}
+use Rattle.std.proofs.lemmas.List.{take-take, take-append-le}
 use Rattle.lists.specs.Over.{over, over_none, over_more, getD_over_in, getD_over_above}
-use Rattle.lists.specs.Region.{region, getD_region, filled}
+use Rattle.lists.specs.Region.{region, getD_region}
 use Rattle.lists.specs.Maps.{any_step, map_set, map_take, take_over}
 use Rattle.lists.specs.Regions.{All}
 use Rattle.lists.specs.Bits.{bits_from, set_bits, bits_above, no_bits}
@@ -112,11 +114,12 @@ copied_cell s row place other from v e counts h =
     state_store counts s row place v
     ∙ ap (λ (c : Cell). store_at row place c (state_of counts s)) (e ∙ ap paper.copied (sym (state_cell counts s other from h)))
 
--- a row in lent words
-pub filled_front : (at m : ℕ) (l row₀ row : List ℕ) → row ≡ over 0 m (λ k x. get_or l (at + k) 0) row₀ → m ≤ length row₀ → at + m ≤ length l
-    → (n : ℕ) → n ≤ m → take n row ≡ region at n l
-filled_front at m l row₀ row e hr hl n h =
-    ap (take n) e ∙ take_over n m (λ k x. get_or l (at + k) 0) row₀ h ∙ filled at n l (take n row₀) (simp length-take (omega arith)) (omega arith)
+-- a row copied from lent words, and one copied to them
+pub row_front : (at : ℕ) (l row : List ℕ) → row ≡ take (at + 32 - at) (drop at l) → (n : ℕ) → n ≤ 32 → take n row ≡ region at n l
+unfolding region
+row_front at l row e n h =
+    let k : at + 32 - at ≡ 32 = omega arith in
+    rw (e, k) (take-take n 32 (drop at l) h)
 
 -- a row met into words, cell by cell
 pub met_over : (rule : Rule) (n : ℕ) (row l : List ℕ) → length l ≡ n → n ≤ length row → map cell_of (over 0 n (meet_at rule row) l) ≡ pointwise (paper.meet rule) (map cell_of l) (cells_of n row)

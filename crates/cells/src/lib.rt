@@ -351,11 +351,7 @@ fn load_row(words: &[u16], at: usize) -> [u16; ROW_WORDS]
     ensures { (n : ℕ) → n ≤ row_words → take n result ≡ region at n words.now }
 {
     let mut row = [0u16; ROW_WORDS];
-    let mut i = 0;
-    while i < ROW_WORDS {
-        row[i] = words[at + i];
-        i += 1;
-    }
+    row.copy_from_slice(&words[at..at + ROW_WORDS]);
     row
 }
 
