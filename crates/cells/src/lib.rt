@@ -370,11 +370,7 @@ fn store_row(words: &mut [u16], at: usize, row: &[u16; ROW_WORDS], n: usize)
     requires { (at + n ≤ length words.old) × (n ≤ row_words) }
     ensures { words.new ≡ over at n (λ k w. get_or row.now k 0) words.old }
 {
-    let mut i = 0;
-    while i < n {
-        words[at + i] = row[i];
-        i += 1;
-    }
+    words[at..at + n].copy_from_slice(&row[..n]);
 }
 
 // The state written at `at`.
