@@ -254,6 +254,11 @@ row_done {n} {f} {row₀} {row} r h =
     let len : length (map cell_of (take n row₀)) ≡ n = simp (length-map, length-take) (omega arith) in
     cells_done r n (omega arith) ∙ placed_row f (map cell_of (take n row₀)) ∙ ap (λ (k : ℕ). row_of k f) len
 
+-- the cells that count stand at the front
+pub front_cells : (n : ℕ) (row rest : List ℕ) → n ≤ length row → cells_of n (row ++ rest) ≡ cells_of n row
+unfolding cells_of
+front_cells n row rest h = ap (map cell_of) (take-append-le n row rest h)
+
 pub cells_same : (n m w : ℕ) → n ≤ m → cells_of n (replicate m w) ≡ replicate n (cell_of w)
 unfolding cells_of
 cells_same zero m w h = refl

@@ -388,10 +388,8 @@ fn real_row(n: usize) -> [u16; ROW_WORDS]
     ensures { cells_of n result ≡ row_of n (λ i. paper.named (real i) false) }
 {
     let mut row = [0u16; ROW_WORDS];
-    let mut i = 0;
-    while i < n {
-        row[i] = REAL_CELLS + i as u16;
-        i += 1;
+    for (i, word) in row[..n].iter_mut().enumerate() {
+        *word = REAL_CELLS + i as u16;
     }
     row
 }
