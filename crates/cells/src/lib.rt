@@ -63,10 +63,7 @@ const MEET: [[[u8; 4]; 4]; 2] = [
 fn rule_index(rule: Rule) -> usize
     ensures { result ≡ rule_index rule }
 {
-    match rule {
-        Rule::Old => 0,
-        Rule::House => 1,
-    }
+    rule as usize
 }
 
 // The table, to be lent.
@@ -136,6 +133,7 @@ fn overwrite_row(row: &mut [u16; ROW_WORDS], name: u16)
 }
 
 // The state after the name was written elsewhere: no cell holds it any more.
+// (A loop over the two rows is no plainer than the two calls.)
 pub fn overwrite(s: &mut State, name: u16)
     ensures { (counts : List ℕ) → RowsFit counts → state_of counts s.new ≡ everywhere (paper.overwritten (name_of_word name)) (state_of counts s.old) }
 {
