@@ -1,4 +1,5 @@
 -- From what the callees promise to what is said of a sheet, and from that to the paper's outcome.
+use Rattle.std.specs.Prelude.{Option, None}
 use mathlib.Core.Path.{◌≡◌, refl, sym, ap, ◌∙◌, subst}
 use mathlib.Core.Bool.{true, false}
 use mathlib.Core.List.{List, [], ◌∷◌}
@@ -29,7 +30,6 @@ use Rattle.tables.specs.Table.{mark_of}
 use Rattle.runs.specs.Stands.{Analysed, analysed_sheet, analysed_loaded}
 use Rattle.faults.specs.Missing.{missing_lines, MissingOf}
 use Rattle.faults.specs.declared.Missing.{Missing}
-use Rattle.faults.specs.declared.Missing.TheVariants.{Nothing}
 use Rattle.faults.specs.Reported.{Checkable, Reported}
 use Rattle.checker.specs.Checked.{Few, lent, AnswerWithin, Answered, Checked, verdict_of, rule_of, Exported}
 use Rattle.checker.specs.declared.Verdict.{Verdict}
@@ -129,7 +129,7 @@ module _ {sheet : Bytes} {before after : List ℕ} {r : Loading.Loading} (l : Lo
       rw h (record { answer_is = refl; report_is = refl; same_words = w; same_queue = refl; within = (b.most, omega (arith, b.inside), b.shown) })
 
 -- no step lacks an allocation
-pub nothing_missing : {words : List ℕ} {r : Missing} → MissingOf words r → r ≡ Nothing → missing_allocations (sheet_of words) ≡ []
+pub nothing_missing : {words : List ℕ} {r : Option Missing} → MissingOf words r → r ≡ None → missing_allocations (sheet_of words) ≡ []
 unfolding missing_lines
 nothing_missing {words} m e = m.lines ∙ ap (missing_lines words) e
 

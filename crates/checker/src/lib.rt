@@ -10,7 +10,6 @@ ghost use Rattle.paper.specs.Answer as paper_answer;
 ghost use Rattle.loaded.specs.Loaded.{sheet_of, Loaded};
 ghost use Rattle.checker.specs.Checked.{lent, Few, refusal_text, RefusalWithin, Answered, Checked, Stated, verdict_of, rule_of, Exported};
 
-use faults::Missing;
 use layout::{QUEUE_SIZE, REPORT_SIZE, WORDS_SIZE};
 use paper::{Answer, Refusal, Rule, TOO_SHORT};
 use sheet::Loading;
@@ -31,9 +30,8 @@ fn write_faults(rule: Rule, words: &mut [u16], queue: &mut [u8], report: &mut [u
     requires { Loaded words.old × Few words.old × (report_size ≤ length report.old) × (words_size ≤ length words.old) × (queue_size ≤ length queue.old) }
     ensures { Answered (paper_answer.said_of rule (entries rule (sheet_of words.old))) report.old words.old queue.old report.new words.new queue.new result }
 {
-    let missing = faults::find_missing(words);
-    if let Missing::Found { block, place, k } = missing {
-        return faults::write_missing(rule, words, report, block, place, k);
+    if let Some(missing) = faults::find_missing(words) {
+        return faults::write_missing(rule, words, report, missing);
     }
     runs::analyze(rule, words, queue);
     faults::write_errors(rule, words, report)

@@ -1,4 +1,6 @@
 -- What a check can find in a step whose numbers are in range: a fault at one of the step's own registers or slots.
+use Rattle.std.specs.Result.{ForErr}
+use Rattle.steps.specs.Checks.{CheckResult}
 use mathlib.Core.Path.{◌≡◌}
 use mathlib.Core.Bool.{Bool, true, false, cond}
 use mathlib.Core.List.{List, [], ◌∷◌, map}
@@ -19,7 +21,7 @@ use Rattle.paper.specs.Steps.{State, slot, get, Fault, first_of, check_use, chec
 use Rattle.paper.specs.Steps as fault
 use Rattle.layout.specs.Layout.{row_widths}
 use Rattle.loaded.specs.Actions.{copy_step, no_register, register_of, operand_of, operands, step_of, InRange}
-use Rattle.steps.specs.Faults.{fault_of}
+use Rattle.steps.specs.Faults.{error_fault, fault_of}
 use Rattle.loaded.specs.declared.Action.{Action}
 use Rattle.loaded.specs.declared.Action.TheVariants.{Copy, Change, Operation, Safepoint}
 use Rattle.loaded.specs.declared.CopyKind.TheVariants.{Spill, Reload, Move}
@@ -119,9 +121,8 @@ register_within r h = go (ℕ_discrete r no_register)
     go (yes p) = absurd (rw (eq-eqb r no_register p) at h)
     go (no p) = rw (ne_eqb r no_register p) at h
 
-within_of : (e : CheckerError) → FaultWithin (fault_of e) → ErrorWithin e
-unfolding fault_of
-within_of error.Nothing h = tt
+within_of : (e : CheckerError) → FaultWithin (some (error_fault e)) → ErrorWithin e
+unfolding error_fault
 within_of (error.UnknownValueInReg r) h = register_within r h
 within_of (error.IncorrectValueInReg r x a) h = register_within r h
 within_of (error.UnknownValueInSlot k x) h = h
@@ -129,6 +130,7 @@ within_of (error.IncorrectValueInSlot k x a) h = h
 within_of (error.StackMapSpecifiesNonRefSlot k) h = h
 within_of (error.StackMapSpecifiesUndefinedSlot k) h = h
 
-pub error_within : (words : List ℕ) (a : Action) (s : State) (e : CheckerError) → InRange row_widths words a
-    → fault_of e ≡ check (step_of words a) s → ErrorWithin e
-error_within words a s e h f = within_of e (rw f (check_within words a s h))
+pub error_within : (words : List ℕ) (a : Action) (s : State) (r : CheckResult) → InRange row_widths words a
+    → fault_of r ≡ check (step_of words a) s → ForErr r ErrorWithin
+unfolding fault_of
+error_within words a s r h f e is = within_of e (rw is at (rw (← f) at (check_within words a s h)))

@@ -1,7 +1,7 @@
 -- The fields of each error are those of the fault that it is, and make a line of at most 32 bytes.
 use mathlib.Core.Path.{◌≡◌, refl, ap₂}
 use mathlib.Core.List.{List, ◌∷◌}
-use mathlib.Core.Option.{Option, some}
+use mathlib.Core.Option.{some}
 use Prim.Native.Nat.{ℕ, ◌≤◌, ◌<◌}
 use native.Mathlib.Omega.{arith}
 use borrow.Author.Tests.{ne_eqb}
@@ -12,7 +12,7 @@ use Rattle.paper.specs.Steps.{Fault, missing_allocation_for_reg}
 use Rattle.paper.specs.Report.{behind_tabs, letter_E, kind_of, fault_fields, reg_text, line_text}
 use Rattle.cells.specs.Packed.{name_of_word}
 use Rattle.loaded.specs.Actions.{no_register, register_of}
-use Rattle.steps.specs.Faults.{fault_of}
+use Rattle.steps.specs.Faults.{error_fault}
 use Rattle.steps.specs.declared.CheckerError.TheVariants as error
 use Rattle.report.specs.Lines.{field_text, field_texts, fields_line, PositionWithin}
 use Rattle.report.specs.Lengths.{nothing_short, register_short, slot_short, named_short, ShortFields, line_short}
@@ -20,7 +20,7 @@ use Rattle.report.specs.declared.Field.{Field}
 use Rattle.report.specs.declared.Field.TheVariants.{Nothing, Register, Slot, Named}
 use Rattle.report.specs.declared.Position.{Position}
 use Rattle.report.specs.declared.FaultFields.{FaultFields}
-use Rattle.faults.specs.Errors.{kind_in, fields_in, FieldsOf}
+use Rattle.faults.specs.Errors.{FieldsOf}
 
 abbrev fields : ℕ → Field → Field → Field → FaultFields
 fields kind location expected actual = record { kind = kind; location = location; expected = expected; actual = actual }
@@ -39,46 +39,42 @@ module _ (kind : ℕ) (small : kind < 10) (location : Field) (short : length (fi
 
 -- what they stand for
 
-pub nothing_found : FieldsOf (fault_of error.Nothing) (fields 0 Nothing Nothing Nothing)
-unfolding fault_of kind_in fields_in field_text field_texts
-nothing_found = record { kind = refl; texts = refl; short = no_name 0 (omega arith) Nothing (omega (arith, nothing_short)) }
-
 module _ (r : ℕ) (h : r < max_regs) where
   register_small : register_of r ≡ some r
   unfolding register_of
   register_small = rw (ne_eqb r no_register (λ e. omega arith))
 
-  pub unknown_in_reg : FieldsOf (fault_of (error.UnknownValueInReg r)) (fields 2 (Register r) Nothing Nothing)
-  unfolding fault_of kind_in fields_in kind_of fault_fields field_text field_texts reg_text
+  pub unknown_in_reg : FieldsOf (error_fault (error.UnknownValueInReg r)) (fields 2 (Register r) Nothing Nothing)
+  unfolding error_fault kind_of fault_fields field_text field_texts reg_text
   unknown_in_reg = rw register_small (record { kind = refl; texts = refl; short = no_name 2 (omega arith) (Register r) (register_short r h) })
 
-  pub incorrect_in_reg : (e a : ℕ) → FieldsOf (fault_of (error.IncorrectValueInReg r e a)) (fields 3 (Register r) (Named e) (Named a))
-  unfolding fault_of kind_in fields_in kind_of fault_fields field_text field_texts reg_text
+  pub incorrect_in_reg : (e a : ℕ) → FieldsOf (error_fault (error.IncorrectValueInReg r e a)) (fields 3 (Register r) (Named e) (Named a))
+  unfolding error_fault kind_of fault_fields field_text field_texts reg_text
   incorrect_in_reg e a =
       rw register_small (record { kind = refl; texts = refl; short = two_names 3 (omega arith) (Register r) (register_short r h) e a })
 
 module _ (k : ℕ) (h : k < max_slots) where
-  pub unknown_in_slot : (e : ℕ) → FieldsOf (fault_of (error.UnknownValueInSlot k e)) (fields 4 (Slot k) (Named e) Nothing)
-  unfolding fault_of kind_in fields_in kind_of fault_fields field_text field_texts
+  pub unknown_in_slot : (e : ℕ) → FieldsOf (error_fault (error.UnknownValueInSlot k e)) (fields 4 (Slot k) (Named e) Nothing)
+  unfolding error_fault kind_of fault_fields field_text field_texts
   unknown_in_slot e = record { kind = refl; texts = refl; short = one_name 4 (omega arith) (Slot k) (slot_short k h) e }
 
-  pub incorrect_in_slot : (e a : ℕ) → FieldsOf (fault_of (error.IncorrectValueInSlot k e a)) (fields 5 (Slot k) (Named e) (Named a))
-  unfolding fault_of kind_in fields_in kind_of fault_fields field_text field_texts
+  pub incorrect_in_slot : (e a : ℕ) → FieldsOf (error_fault (error.IncorrectValueInSlot k e a)) (fields 5 (Slot k) (Named e) (Named a))
+  unfolding error_fault kind_of fault_fields field_text field_texts
   incorrect_in_slot e a = record { kind = refl; texts = refl; short = two_names 5 (omega arith) (Slot k) (slot_short k h) e a }
 
-  pub non_ref_slot : FieldsOf (fault_of (error.StackMapSpecifiesNonRefSlot k)) (fields 6 (Slot k) Nothing Nothing)
-  unfolding fault_of kind_in fields_in kind_of fault_fields field_text field_texts
+  pub non_ref_slot : FieldsOf (error_fault (error.StackMapSpecifiesNonRefSlot k)) (fields 6 (Slot k) Nothing Nothing)
+  unfolding error_fault kind_of fault_fields field_text field_texts
   non_ref_slot = record { kind = refl; texts = refl; short = no_name 6 (omega arith) (Slot k) (slot_short k h) }
 
-  pub undefined_slot : FieldsOf (fault_of (error.StackMapSpecifiesUndefinedSlot k)) (fields 7 (Slot k) Nothing Nothing)
-  unfolding fault_of kind_in fields_in kind_of fault_fields field_text field_texts
+  pub undefined_slot : FieldsOf (error_fault (error.StackMapSpecifiesUndefinedSlot k)) (fields 7 (Slot k) Nothing Nothing)
+  unfolding error_fault kind_of fault_fields field_text field_texts
   undefined_slot = record { kind = refl; texts = refl; short = no_name 7 (omega arith) (Slot k) (slot_short k h) }
 
 -- the line
 
-pub line_of_fields : {o : Option Fault} {f : FaultFields} (p : Position) → FieldsOf o f
+pub line_of_fields : {fault : Fault} {f : FaultFields} (p : Position) → FieldsOf fault f
     → fields_line p f
-    ≡ letter_E ∷ behind_tabs (digits p.block ∷ digits p.place ∷ digits p.inst ∷ digits (kind_in o) ∷ fields_in o)
+    ≡ letter_E ∷ behind_tabs (digits p.block ∷ digits p.place ∷ digits p.inst ∷ digits (kind_of fault) ∷ fault_fields fault)
 unfolding fields_line
 line_of_fields p F =
     ap₂ (λ (k : ℕ) (fs : List Bytes). letter_E ∷ behind_tabs (digits p.block ∷ digits p.place ∷ digits p.inst ∷ digits k ∷ fs))

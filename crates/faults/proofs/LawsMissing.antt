@@ -1,4 +1,5 @@
 -- The search for the first step that has an operand with no allocation, and its lines.
+use Rattle.std.proofs.Common.{Some, None}
 use mathlib.Core.Path.{◌≡◌, refl, sym, ap, ◌∙◌}
 use mathlib.Core.Bool.{true, false, true≢false}
 use mathlib.Core.List.{List, [], ◌∷◌, map}
@@ -16,9 +17,8 @@ use Rattle.loaded.specs.declared.Action.TheVariants.{Operation}
 use Rattle.loaded.specs.Loaded.{sheet_of}
 use Rattle.report.specs.declared.Position.{Position}
 use Rattle.faults.specs.Errors.{names_at}
-use Rattle.faults.specs.Missing.{step_lines, missing_lines, is_found, MissingIs, MissingOf}
+use Rattle.faults.specs.Missing.{step_lines, missing_lines, MissingIs, MissingOf}
 use Rattle.faults.specs.declared.Missing.{Missing}
-use Rattle.faults.specs.declared.Missing.TheVariants.{Nothing, Found}
 
 -- the first list that has something in it
 
@@ -95,24 +95,21 @@ blocks_ended S b n h = let e : n - b ≡ 0 = omega arith in rw e
 pub blocks_start : (S : Sheet) (n : ℕ) → missing_blocks S 0 n ≡ missing_blocks S 0 (n - 0)
 blocks_start S n = let f : n - 0 ≡ n = omega arith in rw f
 
-pub some_lines : (words : List ℕ) (ls : List Line) (r : Missing) → MissingIs words ls r → is_found r ≡ true → some_in ls ≡ true
-unfolding is_found missing_lines step_lines names_lines
-some_lines words ls Nothing m e = absurd (true≢false (sym e))
-some_lines words ls (Found block place k) m e =
-    rw m.lines (some_mapped _ (missing_names (step_of words (action_at words k))) ∙ m.within.3)
+pub some_lines : {words : List ℕ} {ls : List Line} (missing : Missing) → MissingIs words ls (Some missing) → some_in ls ≡ true
+unfolding missing_lines step_lines names_lines
+some_lines {words} missing m = rw m.lines (some_mapped _ (missing_names (step_of words (action_at words missing.k))) ∙ m.within.3)
 
-pub no_lines_found : (words : List ℕ) (ls : List Line) (r : Missing) → MissingIs words ls r → is_found r ≡ false → ls ≡ []
-unfolding is_found missing_lines
-no_lines_found words ls Nothing m e = m.lines
-no_lines_found words ls (Found block place k) m e = absurd (true≢false e)
+pub no_lines_found : {words : List ℕ} {ls : List Line} → MissingIs words ls None → ls ≡ []
+unfolding missing_lines
+no_lines_found m = m.lines
 
 -- the step that was found
 
-pub entries_missing : (rule : Rule) (words : List ℕ) (block place k : ℕ) → MissingOf words (Found block place k)
-    → entries rule (sheet_of words) ≡ map fault_entry (step_lines block place (step_of words (action_at words k)))
+pub entries_missing : (rule : Rule) (words : List ℕ) (missing : Missing) → MissingOf words (Some missing)
+    → entries rule (sheet_of words) ≡ map fault_entry (step_lines missing.block missing.place (step_of words (action_at words missing.k)))
 unfolding entries missing_lines step_lines names_lines
-entries_missing rule words block place k m =
-    let names = missing_names (step_of words (action_at words k)) in
+entries_missing rule words missing m =
+    let names = missing_names (step_of words (action_at words missing.k)) in
     rw m.lines (first_of_some _ _ (some_mapped fault_entry _ ∙ some_mapped _ names ∙ m.within.3))
 
 module _ (words : List ℕ) (inst at n m : ℕ) where

@@ -1,18 +1,19 @@
 -- Operands with no allocation, counted one after the other, and their lines.
+use Rattle.std.proofs.Common.{eqb, filter, suc, take}
+use Rattle.std.proofs.lemmas.List.{take_more}
+use Rattle.lists.specs.Split.{by_equal}
 use mathlib.Core.Path.{◌≡◌, refl, sym, ap, ◌∙◌}
-use mathlib.Core.List.{List, [], ◌∷◌, ◌++◌, map, map-append, append-nil}
+use mathlib.Core.List.{List, [], ◌∷◌, ◌++◌, map, map-append}
 use mathlib.Core.Option.{Option, none, some}
 use Prim.Native.Nat.{ℕ, ◌+◌, ◌/◌, ◌<◌}
 use native.Mathlib.Omega.{arith}
 use borrow.Author.Tests.{eq-eqb, ne_eqb}
-use lib.ListN.{length, get_or, length-append}
-use Rattle.lists.specs.Region.{region}
+use lib.ListN.{length, get_or}
 use Rattle.lists.specs.Sets.{Wrote, then}
-use Rattle.lists.specs.Grown.{region_more}
 use Rattle.paper.specs.Sheet.{Operand}
 use Rattle.paper.specs.Report.{unallocated, entry_text, lines_text, names_lines}
 use Rattle.cells.specs.Packed.{name_of_word}
-use Rattle.loaded.specs.Actions.{no_register, register_of, operand_of, operands}
+use Rattle.loaded.specs.Actions.{no_register, register_of, operand_of}
 use Rattle.report.specs.Lines.{fields_line}
 use Rattle.report.specs.declared.Position.{Position}
 use Rattle.faults.specs.Errors.{names_at}
@@ -49,34 +50,29 @@ module _ (p : Position) (w : ℕ) where
   unfolding names_at names_lines lines_text
   no_line_missing e = rw (none_missing w e)
 
--- a loop's turn over the operands, which counts them or writes their lines
-module _ (from i : ℕ) (words : List ℕ) (h : from + i < length words) where
-  missing_more : unallocated (operands from (i + 1) words)
-      ≡ unallocated (operands from i words) ++ unallocated (operand_of (get_or words (from + i) 0) ∷ [])
-  unfolding operands
+-- the operands of words, counted
+pub counted : (words : List ℕ) → length (filter (λ word. eqb (word / 1024) no_register) words) ≡ length (unallocated (map operand_of words))
+unfolding operand_of register_of unallocated
+counted [] = refl
+counted (word ∷ words) = by_equal (word / 1024) no_register
+    (λ e. rw (eq-eqb _ _ e) (ap suc (counted words)))
+    (λ d. rw (ne_eqb _ _ d) (counted words))
+
+-- a loop's turn over them, which writes their lines
+module _ (words : List ℕ) (i : ℕ) (h : i < length words) where
+  missing_more : unallocated (map operand_of (take (i + 1) words))
+      ≡ unallocated (map operand_of (take i words)) ++ unallocated (operand_of (get_or words i 0) ∷ [])
   missing_more =
-      rw (region_more from i words h, map-append)
-      (unallocated_append (map operand_of (region from i words)) (operand_of (get_or words (from + i) 0) ∷ []))
-
-  pub counted_more : (count : ℕ) → get_or words (from + i) 0 / 1024 ≡ no_register → count ≡ length (unallocated (operands from i words))
-      → count + 1 ≡ length (unallocated (operands from (i + 1) words))
-  counted_more count e c = rw (missing_more, one_missing _ e, length-append, c)
-
-  pub counted_same : (count : ℕ) → (get_or words (from + i) 0 / 1024 ≡ no_register → ⊥) → count ≡ length (unallocated (operands from i words))
-      → count ≡ length (unallocated (operands from (i + 1) words))
-  counted_same count e c = rw (missing_more, none_missing _ e, append-nil) c
+      rw (take_more words i 0 h, map-append)
+      (unallocated_append (map operand_of (take i words)) (operand_of (get_or words i 0) ∷ []))
 
   pub wrote_more : {l l₁ l₂ : List ℕ} {at j k : ℕ} (p : Position)
-      → Wrote l at (lines_text (names_at p (unallocated (operands from i words)))) l₁ j
-      → Wrote l₁ j (lines_text (names_at p (unallocated (operand_of (get_or words (from + i) 0) ∷ [])))) l₂ k
-      → Wrote l at (lines_text (names_at p (unallocated (operands from (i + 1) words)))) l₂ k
+      → Wrote l at (lines_text (names_at p (unallocated (map operand_of (take i words))))) l₁ j
+      → Wrote l₁ j (lines_text (names_at p (unallocated (operand_of (get_or words i 0) ∷ [])))) l₂ k
+      → Wrote l at (lines_text (names_at p (unallocated (map operand_of (take (i + 1) words))))) l₂ k
   unfolding names_at names_lines
   wrote_more p before one = rw (missing_more, map-append, map-append, lines_append) (then before one)
 
-pub missing_none : (from : ℕ) (words : List ℕ) → unallocated (operands from 0 words) ≡ []
-unfolding operands region unallocated
-missing_none from words = refl
-
-pub wrote_none : (from : ℕ) (words l : List ℕ) (at : ℕ) (p : Position) → Wrote l at (lines_text (names_at p (unallocated (operands from 0 words)))) l at
-unfolding names_at names_lines lines_text
-wrote_none from words l at p = rw (missing_none from words) (record { list = refl; next = omega arith })
+pub wrote_none : (l : List ℕ) (at : ℕ) (p : Position) → Wrote l at (lines_text (names_at p (unallocated []))) l at
+unfolding names_at names_lines lines_text unallocated
+wrote_none l at p = record { list = refl; next = omega arith }

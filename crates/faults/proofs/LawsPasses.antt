@@ -1,19 +1,18 @@
 -- What a pass leaves of lines one after the other, and of one step.
 use mathlib.Core.Path.{◌≡◌, refl, sym, ◌∙◌}
 use mathlib.Core.List.{List, [], ◌∷◌, ◌++◌, append-nil, append_assoc}
-use mathlib.Core.Option.{Option, none, some}
+use mathlib.Core.Option.{none, some}
 use Prim.Native.Nat.{ℕ, ◌+◌}
 use native.Mathlib.Omega.{arith}
-use lib.ListN.{length, length-append}
+use lib.ListN.{length-append}
 use Rattle.lists.specs.Sets.{Wrote, then}
 use Rattle.paper.specs.Steps.{Fault}
-use Rattle.paper.specs.Steps as fault
-use Rattle.paper.specs.Report.{Entry, unreached_entry, faults_in, kind_of, line_text, unreached_text, entry_text, lines_text, line_of}
+use Rattle.paper.specs.Report.{Entry, unreached_entry, faults_in, line_text, unreached_text, entry_text, lines_text, line_of}
 use Rattle.walks.specs.Entries.{faults_append}
 use Rattle.report.specs.Lines.{fields_line}
 use Rattle.report.specs.declared.Position.{Position}
 use Rattle.report.specs.declared.FaultFields.{FaultFields}
-use Rattle.faults.specs.Errors.{line_at, kind_in, fields_in, FieldsOf}
+use Rattle.faults.specs.Errors.{line_at, FieldsOf}
 use Rattle.faults.specs.Passes.{report_after, growth, AfterPass}
 use Rattle.faults.specs.declared.Pass.{Pass}
 use Rattle.faults.specs.declared.Pass.TheVariants.{Count, Write}
@@ -49,45 +48,22 @@ pass_then {pass = Write} p q = wrote_pass (rw lines_append (then (pass_wrote p) 
 
 -- one step
 
-some_kind : (fault : Fault) → kind_of fault ≡ 0 → ⊥
-unfolding kind_of
-some_kind (fault.missing_allocation_for_reg n) e = omega arith
-some_kind (fault.unknown_value_in_reg r) e = omega arith
-some_kind (fault.incorrect_value_in_reg r x a) e = omega arith
-some_kind (fault.unknown_value_in_slot k x) e = omega arith
-some_kind (fault.incorrect_value_in_slot k x a) e = omega arith
-some_kind (fault.stack_map_specifies_non_ref_slot k) e = omega arith
-some_kind (fault.stack_map_specifies_undefined_slot k) e = omega arith
-
 module _ (p : Position) where
-  no_line : (o : Option Fault) → kind_in o ≡ 0 → line_at p o ≡ []
-  unfolding kind_in line_at line_of
-  no_line none e = refl
-  no_line (some fault) e = absurd (some_kind fault e)
+  pub pass_nothing : (pass : Pass) (l : List ℕ) (i : ℕ) → AfterPass pass (line_at p none) l i l i
+  unfolding line_at line_of
+  pass_nothing pass l i = pass_none pass l i
 
-  pub pass_nothing : {o : Option Fault} {f : FaultFields} (pass : Pass) (l : List ℕ) (i : ℕ) → FieldsOf o f → f.kind ≡ 0
-      → AfterPass pass (line_at p o) l i l i
-  pass_nothing {o} pass l i F e = rw (no_line o (sym F.kind ∙ e)) (pass_none pass l i)
+  pub pass_counted : (fault : Fault) (l : List ℕ) (i : ℕ) → AfterPass Count (line_at p (some fault)) l i l (i + 1)
+  unfolding report_after growth line_at line_of faults_in
+  pass_counted fault l i = record { list = refl; next = refl }
 
-  one_more : (o : Option Fault) → (kind_in o ≡ 0 → ⊥) → length (faults_in (line_at p o)) ≡ 1
-  unfolding kind_in line_at line_of faults_in
-  one_more none e = absurd (e refl)
-  one_more (some fault) e = refl
+  text_of_fault : (fault : Fault) (f : FaultFields) → FieldsOf fault f → fields_line p f ≡ lines_text (line_at p (some fault))
+  unfolding line_at line_of entry_text line_text
+  text_of_fault fault f F = line_of_fields p F ∙ sym (one_line _)
 
-  pub pass_counted : {o : Option Fault} {f : FaultFields} (l : List ℕ) (i : ℕ) → FieldsOf o f → (f.kind ≡ 0 → ⊥)
-      → AfterPass Count (line_at p o) l i l (i + 1)
-  unfolding report_after growth
-  pass_counted {o} l i F e = record { list = refl; next = rw (one_more o (λ z. e (F.kind ∙ z))) (refl) }
-
-  text_of_fault : (o : Option Fault) (f : FaultFields) → FieldsOf o f → (kind_in o ≡ 0 → ⊥)
-      → fields_line p f ≡ lines_text (line_at p o)
-  unfolding kind_in fields_in line_at line_of entry_text line_text
-  text_of_fault none f F e = absurd (e refl)
-  text_of_fault (some fault) f F e = line_of_fields p F ∙ sym (one_line _)
-
-  pub pass_written : {o : Option Fault} {f : FaultFields} {l l' : List ℕ} {i j : ℕ} → FieldsOf o f → (f.kind ≡ 0 → ⊥)
-      → Wrote l i (fields_line p f) l' j → AfterPass Write (line_at p o) l i l' j
-  pass_written {o} {f} F e w = wrote_pass (rw (← text_of_fault o f F (λ z. e (F.kind ∙ z))) w)
+  pub pass_written : {fault : Fault} {f : FaultFields} {l l' : List ℕ} {i j : ℕ} → FieldsOf fault f
+      → Wrote l i (fields_line p f) l' j → AfterPass Write (line_at p (some fault)) l i l' j
+  pass_written {fault} {f} F w = wrote_pass (rw (← text_of_fault fault f F) w)
 
 -- an unreached block: its line is no fault
 

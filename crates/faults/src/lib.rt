@@ -3,21 +3,21 @@
 
 #![tactic(auto)]
 
-ghost use Rattle.std.specs.Prelude.{◌≡◌, true, [], ◌∷◌, map, ◌+◌, ◌*◌, ◌≤◌, ◌<◌, length, get_or};
+ghost use Rattle.std.specs.Prelude.{◌≡◌, Some, true, [], ◌∷◌, map, ◌+◌, ◌*◌, ◌≤◌, ◌<◌, length, get_or};
+ghost use Rattle.std.specs.Result.{ForErr};
 ghost use Rattle.lists.specs.Sets.{Wrote};
 ghost use Rattle.paper.specs.Sheet.{steps_of};
 ghost use Rattle.paper.specs.Limits.{max_blocks, max_operands, max_steps, longest_fault_line, longest_unreached_line, report_size};
 ghost use Rattle.paper.specs.Report.{block_faults, fault_entry, unreached_entry, block_entries, find_errors, unallocated, missing_from, entries, lines_text};
 ghost use Rattle.layout.specs.Layout.{blocks_word, run_words};
 ghost use Rattle.loaded.specs.Actions.{operand_of, operands};
-ghost use Rattle.steps.specs.Faults.{fault_of, some_in};
+ghost use Rattle.steps.specs.Faults.{error_fault, fault_of, some_in};
 ghost use Rattle.loaded.specs.Loaded.{step_total, sheet_of, Loaded};
 ghost use Rattle.report.specs.Lines.{PositionWithin};
 ghost use Rattle.faults.specs.Errors.{FieldsOf, ErrorWithin, line_at, names_at};
 ghost use Rattle.faults.specs.Passes.{AfterPass};
-ghost use Rattle.faults.specs.Missing.{is_found, MissingIs, MissingOf};
+ghost use Rattle.faults.specs.Missing.{MissingIs, MissingOf};
 ghost use Rattle.faults.specs.Reported.{Checkable, unmarked_lines, Reported};
-ghost use Rattle.faults.specs.declared.Missing.TheVariants.{Found};
 
 use layout::{DEFS_FROM, MARK_BASE, STATE_BASE, STATE_WORDS};
 use loaded::{Action, NO_REGISTER, REGISTER};
@@ -34,15 +34,13 @@ pub enum Pass {
 
 // The first step that has an operand with no allocation: its block, its place there, and its number in the sheet.
 #[derive(Clone, Copy)]
-pub enum Missing {
-    Nothing,
-    Found {
-        block: usize,
-        place: usize,
-        k: usize,
-    },
+pub struct Missing {
+    pub block: usize,
+    pub place: usize,
+    pub k: usize,
 }
 
+// Stays a function: as a struct literal, or as a tuple, each arm of `fields_of` is longer.
 fn fault_fields(kind: u32, location: Field, expected: Field, actual: Field) -> FaultFields
     ensures { result ≡ record { kind = kind; location = location; expected = expected; actual = actual } }
 {
@@ -54,14 +52,13 @@ fn fault_fields(kind: u32, location: Field, expected: Field, actual: Field) -> F
     }
 }
 
-// The kind and the fields of what a check finds; kind 0 where it finds nothing.
+// The kind and the fields of what a check finds.
 fn fields_of(error: CheckerError) -> FaultFields
     requires { ErrorWithin error }
-    ensures { FieldsOf (fault_of error) result }
+    ensures { FieldsOf (error_fault error) result }
 {
     let none = Field::Nothing;
     match error {
-        CheckerError::Nothing => fault_fields(0, none, none, none),
         CheckerError::UnknownValueInReg { reg } => {
             fault_fields(2, Field::Register(reg as u32), none, none)
         }
@@ -103,18 +100,17 @@ fn count_or_write(
     report: &mut [u8],
     at: usize,
     position: Position,
-    error: CheckerError,
+    checked: Result<(), CheckerError>,
 ) -> usize
-    requires { PositionWithin position × ErrorWithin error × (at + longest_fault_line ≤ length report.old) }
-    ensures { AfterPass pass (line_at position (fault_of error)) report.old at report.new result × (result ≤ at + longest_fault_line) }
+    requires { PositionWithin position × ForErr checked ErrorWithin × (at + longest_fault_line ≤ length report.old) }
+    ensures { AfterPass pass (line_at position (fault_of checked)) report.old at report.new result × (result ≤ at + longest_fault_line) }
 {
-    let fault = fields_of(error);
-    if fault.kind == 0 {
+    let Err(error) = checked else {
         return at;
-    }
+    };
     match pass {
         Pass::Count => at + 1,
-        Pass::Write => report::write_line(report, at, position, fault),
+        Pass::Write => report::write_line(report, at, position, fields_of(error)),
     }
 }
 
@@ -123,15 +119,10 @@ fn count_missing(words: &[u16], from: usize, n: usize) -> usize
     requires { from + n ≤ length words.now }
     ensures { (result ≡ length (unallocated (operands from n words.now))) × (result ≤ n) }
 {
-    let mut count = 0;
-    let mut i = 0;
-    while i < n {
-        if words[from + i] / REGISTER == NO_REGISTER {
-            count += 1;
-        }
-        i += 1;
-    }
-    count
+    words[from..from + n]
+        .iter()
+        .filter(|&&word| word / REGISTER == NO_REGISTER)
+        .count()
 }
 
 // An operand's line, where it has no allocation.
@@ -159,10 +150,8 @@ fn write_names(
     ensures { Wrote report.old at (lines_text (names_at position (unallocated (operands from n words.now)))) report.new result × (result ≤ at + longest_fault_line * n) }
 {
     let mut next = at;
-    let mut i = 0;
-    while i < n {
-        next = write_operand(report, next, position, words[from + i]);
-        i += 1;
+    for &operand in &words[from..from + n] {
+        next = write_operand(report, next, position, operand);
     }
     next
 }
@@ -186,17 +175,11 @@ fn write_missing_among(
 
 // The report of a sheet whose first step that has an operand with no allocation is the k-th: all its missing uses in order, or,
 // when none is missing, all its missing defs. Only an operation has operands.
-pub fn write_missing(
-    rule: Rule,
-    words: &[u16],
-    report: &mut [u8],
-    block: usize,
-    place: usize,
-    k: usize,
-) -> Answer
-    requires { Loaded words.now × MissingOf words.now (Found block place k) × (report_size ≤ length report.old) }
+pub fn write_missing(rule: Rule, words: &[u16], report: &mut [u8], missing: Missing) -> Answer
+    requires { Loaded words.now × MissingOf words.now (Some missing) × (report_size ≤ length report.old) }
     ensures { Reported rule (entries rule (sheet_of words.now)) report.old result report.new }
 {
+    let Missing { block, place, k } = missing;
     let Action::Operation {
         inst,
         at,
@@ -214,49 +197,34 @@ pub fn write_missing(
 }
 
 // The first step of a block that has an operand with no allocation.
-fn find_in_block(words: &[u16], block: usize) -> Missing
+fn find_in_block(words: &[u16], block: usize) -> Option<Missing>
     requires { Loaded words.now × (block < get_or words.now blocks_word 0) }
     ensures { MissingIs words.now (missing_from block 0 (steps_of (sheet_of words.now) block)) result }
 {
     let first = loaded::first_step(words, block);
     let count = loaded::step_total(words, block);
-    let mut place = 0;
-    while place < count {
+    for place in 0..count {
         let k = first + place;
         let action = loaded::action_at(words, k);
         if steps::missing(words, action) {
-            return Missing::Found { block, place, k };
+            return Some(Missing { block, place, k });
         }
-        place += 1;
     }
-    Missing::Nothing
-}
-
-fn is_found(missing: Missing) -> bool
-    ensures { result ≡ is_found missing }
-{
-    if let Missing::Nothing = missing {
-        false
-    } else {
-        true
-    }
+    None
 }
 
 // The first step of the sheet that has an operand with no allocation.
-pub fn find_missing(words: &[u16]) -> Missing
+pub fn find_missing(words: &[u16]) -> Option<Missing>
     requires { Loaded words.now }
     ensures { MissingOf words.now result }
 {
     let count = loaded::blocks(words);
-    let mut block = 0;
-    while block < count {
-        let found = find_in_block(words, block);
-        if is_found(found) {
-            return found;
+    for block in 0..count {
+        if let Some(missing) = find_in_block(words, block) {
+            return Some(missing);
         }
-        block += 1;
     }
-    Missing::Nothing
+    None
 }
 
 // The line of a block that no walk comes to, where lines are written: it is not counted.
@@ -286,15 +254,13 @@ fn check_block(
     let count = loaded::step_total(words, block);
     let mut t = cells::load(words, STATE_BASE + block * STATE_WORDS);
     let mut next = at;
-    let mut place = 0;
-    while place < count {
+    for place in 0..count {
         let action = loaded::action_at(words, first + place);
-        let error = steps::check(words, t, action);
+        let checked = steps::check(words, t, action);
         let inst = steps::inst_of(action);
         let position = Position { block, place, inst };
-        next = count_or_write(pass, report, next, position, error);
+        next = count_or_write(pass, report, next, position, checked);
         steps::update(words, rule, &mut t, action);
-        place += 1;
     }
     next
 }
@@ -324,10 +290,8 @@ fn find_errors(pass: Pass, rule: Rule, words: &[u16], report: &mut [u8], at: usi
 {
     let blocks = loaded::blocks(words);
     let mut next = at;
-    let mut block = 0;
-    while block < blocks {
+    for block in 0..blocks {
         next = block_lines(pass, rule, words, report, next, block);
-        block += 1;
     }
     next
 }
@@ -339,12 +303,10 @@ fn write_unmarked(words: &[u16], report: &mut [u8], at: usize) -> usize
 {
     let total = loaded::blocks(words);
     let mut next = at;
-    let mut block = 0;
-    while block < total {
+    for block in 0..total {
         if words[MARK_BASE + block] == 0 {
             next = report::write_unreached(report, next, block);
         }
-        block += 1;
     }
     next
 }

@@ -1,4 +1,5 @@
 -- From what the callees promise to the text of a sheet's entry states, and from that to the outcome of a call.
+use Rattle.std.specs.Prelude.{Option, Some}
 use mathlib.Core.Path.{◌≡◌, refl, sym, ap, ◌∙◌, subst}
 use mathlib.Core.Bool.{true, false, true≢false}
 use mathlib.Core.List.{List, [], ◌∷◌}
@@ -21,7 +22,6 @@ use Rattle.steps.specs.Faults.{some_in}
 use Rattle.runs.specs.Stands.{Analysed, analysed_sheet, analysed_loaded, analysed_state}
 use Rattle.faults.specs.Missing.{step_lines, missing_lines, MissingOf}
 use Rattle.faults.specs.declared.Missing.{Missing}
-use Rattle.faults.specs.declared.Missing.TheVariants.{Found}
 use Rattle.report.specs.Laid.{wrote_laid}
 use Rattle.checker.specs.Checked.{lent, Stated}
 use Rattle.checker.proofs.Laws.{loads_sheet, refuses_sheet}
@@ -55,10 +55,10 @@ module _ {sheet : Bytes} {before after : List ℕ} {r : Loading.Loading} (rule :
   some_lines block place inst [] text s = absurd (true≢false (sym s))
   some_lines block place inst (n ∷ names) text s = refl
 
-  pub text_missing : {m : Missing} {block place k : ℕ} → MissingOf after m → m ≡ Found block place k → entry_states rule sheet ≡ []
+  pub text_missing : {m : Option Missing} {missing : Missing} → MissingOf after m → m ≡ Some missing → entry_states rule sheet ≡ []
   unfolding missing_lines step_lines
-  text_missing {m} {block} {place} {k} M f =
-      let N : MissingOf after (Found block place k) = subst (MissingOf after) f M in
+  text_missing {m} {missing} M f =
+      let N : MissingOf after (Some missing) = subst (MissingOf after) f M in
       text_loaded ∙ rw N.lines (some_lines block place _ _ _ N.within.3)
 
 -- the words behind the analysis

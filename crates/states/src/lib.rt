@@ -19,7 +19,6 @@ ghost use Rattle.states.specs.EntryStates as text;
 ghost use Rattle.states.specs.Stated.{part_text, part_size, Written, HoldsStates, row_text, head_text, longest_cell, longest_head, longest_line, longest_text, states_size};
 
 use cells::{KIND, KINDS, MARK};
-use faults::Missing;
 use layout::{MARK_BASE, MAX_BLOCKS, MAX_REGS, MAX_SLOTS, ROW_WORDS, STATE_BASE, STATE_WORDS};
 use paper::Rule;
 use sheet::Loading;
@@ -147,8 +146,7 @@ fn write_states(
     let Loading::Loaded = loading else {
         return 0;
     };
-    let missing = faults::find_missing(words);
-    let Missing::Nothing = missing else {
+    let None = faults::find_missing(words) else {
         return 0;
     };
     runs::analyze(rule, words, queue);

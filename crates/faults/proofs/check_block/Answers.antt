@@ -4,7 +4,7 @@ use Rattle.loaded.specs.declared.Action.{Action}
 use Rattle.faults.specs.Reported.{Checkable}
 use Prim.Native.Nat.{◌<◌}
 use Rattle.layout.specs.Layout.{blocks_word}
-use mathlib.Core.Path.{◌≡◌, refl, ap, ◌∙◌}
+use mathlib.Core.Path.{◌≡◌, ap, ◌∙◌}
 use Prim.Native.Nat.{ℕ, ◌+◌}
 use native.Mathlib.Omega.{arith}
 use lib.ListN.{get_or}
@@ -45,7 +45,7 @@ load-t-requires c = let w = (block_within c.requires.0.loaded c.requires.1) in
     omega arith
 
 pub loop-place-init : goal.loop-place-init
-loop-place-init c = (omega arith, omega arith, refl, so_far_none c.requires.0 c.requires.1 _ _ _ _ (c.load-t.ensures _ (block_within c.requires.0.loaded c.requires.1).rows))
+loop-place-init c = (omega arith, so_far_none c.requires.0 c.requires.1 _ _ _ _ (c.load-t.ensures _ (block_within c.requires.0.loaded c.requires.1).rows))
 
 pub overflow_add-first : goal.overflow_add-first
 overflow_add-first c = omega (arith, (block_within c.requires.0.loaded c.requires.1))
@@ -54,32 +54,27 @@ pub action_at-action-requires : goal.action_at-action-requires
 action_at-action-requires c = let w = (block_within c.requires.0.loaded c.requires.1) in
     (omega arith, omega arith)
 
-pub check-error-requires : goal.check-error-requires
-check-error-requires c = (most _ c.requires.0 c.requires.1 (runs c.requires.0 c.requires.1 c.first_step-first.ensures c.action_at-action.ensures c.step_total-count.ensures c.loop-place-test.true))
+pub check-checked-requires : goal.check-checked-requires
+check-checked-requires c = (most _ c.requires.0 c.requires.1 (runs c.requires.0 c.requires.1 c.first_step-first.ensures c.action_at-action.ensures c.step_total-count.ensures c.loop-place-test.true))
 
 pub count_or_write-next-requires : goal.count_or_write-next-requires
 count_or_write-next-requires c = let w = (block_within c.requires.0.loaded c.requires.1) in
     let r = runs c.requires.0 c.requires.1 c.first_step-first.ensures c.action_at-action.ensures c.step_total-count.ensures c.loop-place-test.true in
-    let f = c.check-error.ensures (counts_in c.args.words.now) r in
+    let f = c.check-checked.ensures (counts_in c.args.words.now) r in
     let e = error_within _ c.action_at-action.result _ _ (most _ c.requires.0 c.requires.1 r) f in
     ((omega arith, omega arith), e, omega arith)
 
 pub update-requires : goal.update-requires
 update-requires c = (most _ c.requires.0 c.requires.1 (runs c.requires.0 c.requires.1 c.first_step-first.ensures c.action_at-action.ensures c.step_total-count.ensures c.loop-place-test.true))
 
-pub overflow_add-place : goal.overflow_add-place
-overflow_add-place c = omega (arith, (block_within c.requires.0.loaded c.requires.1))
-
 pub loop-place-preserved : goal.loop-place-preserved
 loop-place-preserved c = (
   omega arith,
-  omega arith,
-  omega arith,
-  so_far_more _ _ _ (here c.args.words.now c.args.block c.loop-place.place c.first_step-first.ensures c.action_at-action.ensures) (c.check-error.ensures _ (runs c.requires.0 c.requires.1 c.first_step-first.ensures c.action_at-action.ensures c.step_total-count.ensures c.loop-place-test.true)) (c.inst_of-inst.ensures _)
+  so_far_more _ _ _ (here c.args.words.now c.args.block c.loop-place.place c.first_step-first.ensures c.action_at-action.ensures) (c.check-checked.ensures _ (runs c.requires.0 c.requires.1 c.first_step-first.ensures c.action_at-action.ensures c.step_total-count.ensures c.loop-place-test.true)) (c.inst_of-inst.ensures _)
       (c.update.ensures _ (block_within c.requires.0.loaded c.requires.1).rows (runs c.requires.0 c.requires.1 c.first_step-first.ensures c.action_at-action.ensures c.step_total-count.ensures c.loop-place-test.true) _ (rw (here c.args.words.now c.args.block c.loop-place.place c.first_step-first.ensures c.action_at-action.ensures) (honest_at c.requires.0.loaded _ c.requires.1 _ (omega arith))))
-      c.loop-place.invariant.3 c.count_or_write-next.ensures.0,
+      c.loop-place.invariant.1 c.count_or_write-next.ensures.0,
 )
 
 pub returns : goal.returns
 returns c = let e : c.loop-place.place ≡ step_total c.args.words.now c.args.block = omega arith in
-    (so_far_all c.requires.0 c.requires.1 (rw e at c.loop-place.invariant.3), omega arith)
+    (so_far_all c.requires.0 c.requires.1 (rw e at c.loop-place.invariant.1), omega arith)

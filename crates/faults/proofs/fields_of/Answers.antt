@@ -1,32 +1,10 @@
 -- `fields_of` meets its contract: one case for each error; its register or slot is one that a sheet can have, so it fits, and a
 -- register is not `-`.
-use native.Mathlib.Omega.{arith}
-use Rattle.faults.proofs.LawsFields.{nothing_found, unknown_in_reg, incorrect_in_reg, unknown_in_slot, incorrect_in_slot, non_ref_slot, undefined_slot}
+use Rattle.faults.proofs.LawsFields.{unknown_in_reg, incorrect_in_reg, unknown_in_slot, incorrect_in_slot, non_ref_slot, undefined_slot}
 use Rattle.faults.proofs.fields_of.Goals as goal
 
-pub overflow_cast-reg : goal.overflow_cast-reg
-overflow_cast-reg c = omega (arith, rw c.in-UnknownValueInReg.is at c.requires)
-
-pub overflow_cast-reg-in-IncorrectValueInReg : goal.overflow_cast-reg-in-IncorrectValueInReg
-overflow_cast-reg-in-IncorrectValueInReg c = omega (arith, rw c.in-IncorrectValueInReg.is at c.requires)
-
-pub overflow_cast-slot : goal.overflow_cast-slot
-overflow_cast-slot c = omega (arith, rw c.in-UnknownValueInSlot.is at c.requires)
-
-pub overflow_cast-slot-in-IncorrectValueInSlot : goal.overflow_cast-slot-in-IncorrectValueInSlot
-overflow_cast-slot-in-IncorrectValueInSlot c = omega (arith, rw c.in-IncorrectValueInSlot.is at c.requires)
-
-pub overflow_cast-slot-in-StackMapSpecifiesNonRefSlot : goal.overflow_cast-slot-in-StackMapSpecifiesNonRefSlot
-overflow_cast-slot-in-StackMapSpecifiesNonRefSlot c = omega (arith, rw c.in-StackMapSpecifiesNonRefSlot.is at c.requires)
-
-pub overflow_cast-slot-in-StackMapSpecifiesUndefinedSlot : goal.overflow_cast-slot-in-StackMapSpecifiesUndefinedSlot
-overflow_cast-slot-in-StackMapSpecifiesUndefinedSlot c = omega (arith, rw c.in-StackMapSpecifiesUndefinedSlot.is at c.requires)
-
-pub returns-in-Nothing : goal.returns-in-Nothing
-returns-in-Nothing c = rw (c.fault_fields.ensures, c.in-Nothing.is) nothing_found
-
 pub returns-in-UnknownValueInReg : goal.returns-in-UnknownValueInReg
-returns-in-UnknownValueInReg c = rw (c.fault_fields-in-UnknownValueInReg.ensures, c.in-UnknownValueInReg.is) (unknown_in_reg _ (rw c.in-UnknownValueInReg.is at c.requires))
+returns-in-UnknownValueInReg c = rw (c.fault_fields.ensures, c.in-UnknownValueInReg.is) (unknown_in_reg _ (rw c.in-UnknownValueInReg.is at c.requires))
 
 pub returns-in-IncorrectValueInReg : goal.returns-in-IncorrectValueInReg
 returns-in-IncorrectValueInReg c = rw (c.fault_fields-in-IncorrectValueInReg.ensures, c.in-IncorrectValueInReg.is) (incorrect_in_reg _ (rw c.in-IncorrectValueInReg.is at c.requires) _ _)

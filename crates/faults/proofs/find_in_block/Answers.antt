@@ -20,7 +20,7 @@ step_total-count-requires c = let w = (block_within c.requires.0 c.requires.1) i
     (omega arith, omega arith)
 
 pub loop-place-init : goal.loop-place-init
-loop-place-init c = (omega arith, missing_start _ _ _ _)
+loop-place-init c = missing_start _ _ _ _
 
 pub overflow_add-k : goal.overflow_add-k
 overflow_add-k c = omega (arith, (block_within c.requires.0 c.requires.1))
@@ -41,17 +41,14 @@ returns-then-missing c = let w = (block_within c.requires.0 c.requires.1) in
     let some = sym c.missing.ensures ∙ c.if-missing.true in
     let found = rw (c.action_at-action.ensures ∙ ap (λ (n : ℕ). action_at c.args.words.now (n + c.loop-place.place)) c.first_step-first.ensures) at some in
     record {
-      lines = rw (steps_in_words _ _ w.opened) (c.loop-place.invariant.1 ∙ missing_here _ _ _ _ _ (omega arith) found ∙ ap at (sym c.first_step-first.ensures));
+      lines = rw (steps_in_words _ _ w.opened) (c.loop-place.invariant ∙ missing_here _ _ _ _ _ (omega arith) found ∙ ap at (sym c.first_step-first.ensures));
       within = (omega arith, omega arith, omega arith, rw c.action_at-action.ensures at some);
     }
 
-pub overflow_add-place : goal.overflow_add-place
-overflow_add-place c = omega (arith, (block_within c.requires.0 c.requires.1))
-
 pub loop-place-preserved : goal.loop-place-preserved
 loop-place-preserved c = let none = rw (c.action_at-action.ensures ∙ ap (λ (n : ℕ). action_at c.args.words.now (n + c.loop-place.place)) c.first_step-first.ensures) at (sym c.missing.ensures ∙ c.if-missing.false) in
-    (omega arith, c.loop-place.invariant.1 ∙ missing_later _ _ _ _ _ (omega arith) none)
+    (c.loop-place.invariant ∙ missing_later _ _ _ _ _ (omega arith) none)
 
 pub returns : goal.returns
 unfolding missing_lines
-returns c = record { lines = rw (steps_in_words _ _ (block_within c.requires.0 c.requires.1).opened) (c.loop-place.invariant.1 ∙ missing_ended _ _ _ _ _ (omega arith)); within = tt }
+returns c = record { lines = rw (steps_in_words _ _ (block_within c.requires.0 c.requires.1).opened) (c.loop-place.invariant ∙ missing_ended _ _ _ _ _ (omega arith)); within = tt }

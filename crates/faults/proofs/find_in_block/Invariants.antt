@@ -1,7 +1,6 @@
--- `find_in_block` meets its contract: what is missing in the block is what is missing from `place` on, and `count - place` falls;
+-- `find_in_block` meets its contract: what is missing in the block is what is missing from `place` on;
 -- of the steps that have something missing the first alone is reported, so it ends the search.
 use mathlib.Core.Path.{◌≡◌}
-use Prim.Native.Nat.{◌-◌, ◌≤◌}
 use Rattle.paper.specs.Report.{missing_from}
 use Rattle.loaded.specs.Actions.{steps_at}
 use Rattle.loaded.specs.Loaded.{first_step, step_total}
@@ -10,8 +9,4 @@ use Rattle.faults.proofs.find_in_block.Given as goal
 
 abbrev pub invariant-loop-place : goal.invariant-loop-place
 invariant-loop-place l =
-    (l.place ≤ step_total l.words l.block)
-    × (missing_from l.block 0 (steps_at l.words (first_step l.words l.block) (step_total l.words l.block)) ≡ left l.words l.block (first_step l.words l.block) l.place (step_total l.words l.block))
-
-abbrev pub decreases-loop-place : goal.decreases-loop-place
-decreases-loop-place l = l.count - l.place
+    (missing_from l.block 0 (steps_at l.words (first_step l.words l.block) (step_total l.words l.block)) ≡ left l.words l.block (first_step l.words l.block) l.place (step_total l.words l.block))

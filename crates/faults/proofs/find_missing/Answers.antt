@@ -1,4 +1,4 @@
-use mathlib.Core.Path.{refl, sym, ◌∙◌}
+use mathlib.Core.Path.{refl, ◌∙◌}
 use native.Mathlib.Omega.{arith}
 use Rattle.paper.specs.Report.{missing_allocations}
 use Rattle.loaded.specs.Loaded.{sheet_of}
@@ -11,25 +11,22 @@ blocks-count-requires c = c.requires.bounds.size
 
 pub loop-block-init : goal.loop-block-init
 unfolding missing_allocations sheet_of
-loop-block-init c = (omega arith, blocks_start _ _)
+loop-block-init c = blocks_start _ _
 
-pub find_in_block-found-requires : goal.find_in_block-found-requires
-find_in_block-found-requires c = (c.requires, omega arith)
+pub find_in_block-requires : goal.find_in_block-requires
+find_in_block-requires c = (c.requires, omega arith)
 
-pub returns-then-is_found : goal.returns-then-is_found
-returns-then-is_found c = let some = some_lines _ _ _ c.find_in_block-found.ensures (sym c.is_found.ensures ∙ c.if-is_found.true) in
+pub returns-in-Some : goal.returns-in-Some
+returns-in-Some c = let m = rw c.in-Some.is at c.find_in_block.ensures in
     record {
-      lines = c.loop-block.invariant.1 ∙ block_here _ _ _ (omega arith) refl some ∙ c.find_in_block-found.ensures.lines;
-      within = c.find_in_block-found.ensures.within;
+      lines = c.loop-block.invariant ∙ block_here _ _ _ (omega arith) refl (some_lines _ m) ∙ m.lines;
+      within = m.within;
     }
 
-pub overflow_add-block : goal.overflow_add-block
-overflow_add-block c = omega (arith, c.requires.bounds)
-
 pub loop-block-preserved : goal.loop-block-preserved
-loop-block-preserved c = let none = no_lines_found _ _ _ c.find_in_block-found.ensures (sym c.is_found.ensures ∙ c.if-is_found.false) in
-    (omega arith, c.loop-block.invariant.1 ∙ block_later _ _ _ (omega arith) none)
+loop-block-preserved c =
+    c.loop-block.invariant ∙ block_later _ _ _ (omega arith) (no_lines_found (rw c.in_default.is at c.find_in_block.ensures))
 
 pub returns : goal.returns
 unfolding missing_lines
-returns c = record { lines = c.loop-block.invariant.1 ∙ blocks_ended _ _ _ (omega arith); within = tt }
+returns c = record { lines = c.loop-block.invariant ∙ blocks_ended _ _ _ (omega arith); within = tt }

@@ -1,4 +1,4 @@
-use mathlib.Core.Path.{◌≡◌, refl}
+use mathlib.Core.Path.{◌≡◌}
 use native.Mathlib.Omega.{arith}
 use lib.ListN.{get_or}
 use Rattle.layout.specs.Layout.{blocks_word}
@@ -12,7 +12,7 @@ pub blocks-total-requires : goal.blocks-total-requires
 blocks-total-requires c = c.requires.0.bounds.size
 
 pub loop-block-init : goal.loop-block-init
-loop-block-init c = (omega arith, omega arith, refl, unmarked_none c.args.words.now _ _)
+loop-block-init c = (omega arith, unmarked_none c.args.words.now _ _)
 
 pub overflow_add-block : goal.overflow_add-block
 overflow_add-block c = omega (arith, c.requires.0.bounds)
@@ -24,24 +24,19 @@ pub write_unreached-next-requires : goal.write_unreached-next-requires
 write_unreached-next-requires c = let few = c.requires.0.bounds.blocks in
     (omega (arith, few), omega (arith, few, unreached_short c.loop-block.block (omega (arith, few))))
 
-pub overflow_add-block-in-loop-block : goal.overflow_add-block-in-loop-block
-overflow_add-block-in-loop-block c = omega (arith, c.requires.0.bounds)
-
 pub loop-block-preserved : goal.loop-block-preserved
 loop-block-preserved c = let b = c.loop-block.block in
     let words = c.args.words.now in
     let few = c.requires.0.bounds.blocks in
     elim c.if-words-block-eq0.branch [
       | then-words-block-eq0 w ↦ rw (w.report-is, w.next-is) (
-        omega arith,
         omega (arith, w.write_unreached-next.ensures, unreached_short b (omega (arith, few))),
-        omega arith,
-        unmarked_more words b c.loop-block.invariant.3 w.if-words-block-eq0.true w.write_unreached-next.ensures,
+        unmarked_more words b c.loop-block.invariant.1 w.if-words-block-eq0.true w.write_unreached-next.ensures,
       )
-      | else-words-block-eq0 w ↦ rw (w.report-is, w.next-is) (omega arith, omega arith, c.loop-block.invariant.2, unmarked_skipped words b c.loop-block.invariant.3 w.if-words-block-eq0.false)
+      | else-words-block-eq0 w ↦ rw (w.report-is, w.next-is) (omega arith, unmarked_skipped words b c.loop-block.invariant.1 w.if-words-block-eq0.false)
     ]
 
 pub returns : goal.returns
 unfolding unmarked_lines
 returns c = let e : c.loop-block.block ≡ get_or c.args.words.now blocks_word 0 = omega arith in
-    (rw e at c.loop-block.invariant.3, omega (arith, c.requires.0.bounds.blocks))
+    (rw e at c.loop-block.invariant.1, omega (arith, c.requires.0.bounds.blocks))

@@ -1,8 +1,5 @@
--- `write_unmarked` meets its contract: the lines of the blocks so far that have no mark are written, at most five bytes for each, and
--- the blocks left get fewer.
-use mathlib.Core.Path.{◌≡◌}
-use Prim.Native.Nat.{◌+◌, ◌*◌, ◌-◌, ◌≤◌}
-use lib.ListN.{length}
+-- `write_unmarked` meets its contract: the lines of the blocks so far that have no mark are written, at most five bytes for each.
+use Prim.Native.Nat.{◌+◌, ◌*◌, ◌≤◌}
 use Rattle.lists.specs.Sets.{Wrote}
 use Rattle.paper.specs.Limits.{longest_unreached_line}
 use Rattle.paper.specs.Report.{lines_text}
@@ -11,8 +8,5 @@ use Rattle.faults.proofs.write_unmarked.Given as goal
 
 abbrev pub invariant-loop-block : goal.invariant-loop-block
 invariant-loop-block l =
-    (l.block ≤ l.total) × (l.next ≤ l.at + longest_unreached_line * l.block) × (length l.report ≡ length l.initial.report)
+    (l.next ≤ l.at + longest_unreached_line * l.block)
     × Wrote l.initial.report l.at (lines_text (unmarked_to l.words l.block)) l.report l.next
-
-abbrev pub decreases-loop-block : goal.decreases-loop-block
-decreases-loop-block l = l.total - l.block

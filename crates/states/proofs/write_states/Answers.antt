@@ -9,16 +9,16 @@ pub returns-in_default : goal.returns-in_default
 returns-in_default c = let l = c.load-loading.ensures in
     written_none (refused_none c.args.rule l c.in_default.is) l.same_length
 
-pub find_missing-missing-requires : goal.find_missing-missing-requires
-find_missing-missing-requires c = loaded_words c.load-loading.ensures c.in-Loaded.is
+pub find_missing-requires : goal.find_missing-requires
+find_missing-requires c = loaded_words c.load-loading.ensures c.in-Loaded.is
 
-pub returns-in_default-missing : goal.returns-in_default-missing
-returns-in_default-missing c = let l = c.load-loading.ensures in
-    written_none (text_missing c.args.rule l c.in-Loaded.is c.find_missing-missing.ensures c.in_default-missing.is) l.same_length
+pub returns-in_default-find_missing : goal.returns-in_default-find_missing
+returns-in_default-find_missing c = let l = c.load-loading.ensures in
+    written_none (text_missing c.args.rule l c.in-Loaded.is c.find_missing.ensures c.in_default-find_missing.is) l.same_length
 
 pub analyze-requires : goal.analyze-requires
 analyze-requires c = let l = c.load-loading.ensures in
-    (loaded_words l c.in-Loaded.is, nothing_missing c.find_missing-missing.ensures c.in-Nothing.is, omega (arith, l.same_length), omega arith)
+    (loaded_words l c.in-Loaded.is, nothing_missing c.find_missing.ensures c.in-None.is, omega (arith, l.same_length), omega arith)
 
 pub write_blocks-requires : goal.write_blocks-requires
 write_blocks-requires c = let l = c.load-loading.ensures in
@@ -28,5 +28,5 @@ write_blocks-requires c = let l = c.load-loading.ensures in
 pub returns : goal.returns
 returns c = let l = c.load-loading.ensures in
     let loads = loaded_words l c.in-Loaded.is in
-    let full = nothing_missing c.find_missing-missing.ensures c.in-Nothing.is in
+    let full = nothing_missing c.find_missing.ensures c.in-None.is in
     written_text (text_full c.args.rule l c.in-Loaded.is full) (rw (← same_text loads c.analyze.ensures.0) c.write_blocks.ensures.0) c.write_blocks.ensures.1 c.requires.0 (omega (arith, l.same_length, c.analyze.ensures.0.kept.same_length)) c.analyze.ensures.0.same_length
