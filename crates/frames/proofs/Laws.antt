@@ -1,7 +1,9 @@
 -- What a line that is read byte by byte has; what a frame's first line says, test by test; and a room whose first bytes were written
 -- anew keeps the others.
-use Rattle.std.proofs.Common.{◌≡◌, refl, sym, ap, ◌∙◌, List, [], ◌∷◌, ◌++◌, ℕ, ◌+◌, ◌-◌, ◌≤◌, ◌<◌, arith, length, get_or, set, take, drop, length-append, length-drop, length-set, get_or-set_same, get_or-set_other}
-use borrow.Author.Tests.{eq-eqb, ne_eqb}
+use Rattle.std.proofs.Common.{◌≡◌, refl, sym, ap, ◌∙◌, List, [], ◌∷◌, ◌++◌, ℕ, ◌+◌, ◌-◌, ◌≤◌, ◌<◌, arith, length, get_or, set, take, drop, length-append, length-drop, length-set, get_or-set_same, get_or-set_other, Option, None, Some, true, false}
+use Rattle.std.specs.List.{starts_with}
+use Rattle.std.proofs.Math.Dec.{eqb}
+use borrow.Author.Tests.{ne_eqb}
 use lib.Seq.{drop-append_seam, drop-drop, take-append_seam}
 use Rattle.std.proofs.lemmas.List.Edits.{sets-eq}
 use Rattle.lists.specs.Sets.{Wrote}
@@ -12,7 +14,6 @@ use Rattle.fields.specs.declared.Number.TheVariants as number
 use Rattle.fields.specs.declared.End as End
 use Rattle.fields.specs.declared.End.TheVariants as end
 use Rattle.frames.specs.Frame.{hash, length_ended, length_behind, length_of, LineLeft}
-use Rattle.frames.specs.declared.Length.TheVariants as length_variants
 
 -- a line
 
@@ -44,31 +45,31 @@ module _ {before line : List ℕ} {n : ℕ} (r : LineReading before line n) (roo
 
 -- what it says
 
-pub empty_line : (line : Bytes) → length line ≡ 0 → length_variants.Bad ≡ length_of line
-unfolding length_of
-empty_line [] e = refl
-empty_line (b ∷ bs) e = absurd (omega arith)
+-- the first byte of a line is what it starts with
+pub hash_test : (line : Bytes) → starts_with eqb line (hash ∷ []) ≡ eqb (get_or line 0 0) hash
+hash_test [] = refl
+hash_test (b ∷ bs) = by_equal b hash (λ e. rw e refl) (λ d. rw (ne_eqb b hash d, ne_eqb hash b (λ q. d (sym q))) refl)
 
 module _ (line : Bytes) where
-  pub no_hash : (get_or line 0 0 ≡ hash → ⊥) → length_variants.Bad ≡ length_of line
+  pub no_hash : false ≡ starts_with eqb line (hash ∷ []) → ◌≡◌ {A = Option ℕ} None (length_of line)
   unfolding length_of
-  no_hash d = rw (ne_eqb _ _ d)
+  no_hash e = rw (← hash_test line, ← e) refl
 
-  module _ (h : get_or line 0 0 ≡ hash) where
-    pub no_number : number_at line 1 ≡ number.Bad → length_variants.Bad ≡ length_of line
+  module _ (h : true ≡ starts_with eqb line (hash ∷ [])) where
+    pub no_number : number_at line 1 ≡ number.Bad → ◌≡◌ {A = Option ℕ} None (length_of line)
     unfolding length_of length_behind
-    no_number e = rw (eq-eqb _ _ h, e)
+    no_number e = rw (← hash_test line, ← h, e) refl
 
     number_ended : {n next : ℕ} → number_at line 1 ≡ number.Value n next → length_ended n (end_at line next) ≡ length_of line
     unfolding length_of length_behind
-    number_ended e = rw (eq-eqb _ _ h, e)
+    number_ended e = rw (← hash_test line, ← h, e) refl
 
-    pub ended : {n next : ℕ} → number_at line 1 ≡ number.Value n next → end.LineFeed ≡ end_at line next → length_variants.Value n ≡ length_of line
+    pub ended : {n next : ℕ} → number_at line 1 ≡ number.Value n next → end.LineFeed ≡ end_at line next → ◌≡◌ {A = Option ℕ} (Some n) (length_of line)
     unfolding length_ended
     ended says ends = rw (← ends) at (number_ended says)
 
     pub not_ended : {n next : ℕ} (e : End.End) → number_at line 1 ≡ number.Value n next → e ≡ end_at line next → (e ≡ end.LineFeed → ⊥)
-        → length_variants.Bad ≡ length_of line
+        → ◌≡◌ {A = Option ℕ} None (length_of line)
     unfolding length_ended
     not_ended end.Tab says ends d = rw (← ends) at (number_ended says)
     not_ended end.LineFeed says ends d = absurd (d refl)

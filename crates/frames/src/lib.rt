@@ -2,45 +2,53 @@
 
 #![tactic(auto)]
 
-ghost use Rattle.std.specs.Prelude.{◌≡◌, OnOk, ◌≤◌, length, take};
+ghost use Rattle.std.specs.Prelude.{◌≡◌, OnOk, IfSome, ◌≤◌, length, take};
 ghost use Rattle.std.specs.Io.KnownBytes.{Appends, Consumes};
 ghost use Rattle.lists.specs.Sets.{Wrote};
-ghost use Rattle.frames.specs.Frame.{longest_frame, longest_head, frame_head, framed, length_of, LengthWithin, ByteTaken, LineLeft, FrameLeft, FrameTaken};
+ghost use Rattle.frames.specs.Frame.{longest_frame, longest_head, frame_head, framed, length_of, ByteTaken, LineLeft, FrameLeft, FrameTaken, EachAnswered};
 
 use fields::{End, Number};
-use std::io;
-use std::io::{ErrorKind, Read, Write};
+use std::error::Error;
+use std::io::{Eprint, ErrorKind, Read, Write};
+use std::{fmt, io};
 
 const LONGEST_FRAME: usize = 99999;
 
-// A frame was read, of so many bytes; the input ended; or what came is no frame.
-#[derive(Clone, Copy)]
-pub enum Frame {
-    Read(usize),
-    End,
-    Malformed,
+// What came is no frame.
+#[derive(Clone, Copy, Debug, PartialEq, Eq)]
+pub struct Malformed;
+
+impl fmt::Display for Malformed {
+    ghost use Rattle.std.specs.Prelude.{Some, codes};
+
+    ghost output = { λ _. Some (codes "malformed frame") };
+
+    fn fmt<W: fmt::Write>(&self, f: &mut fmt::Formatter<W>) -> fmt::Result {
+        f.write_str("malformed frame")
+    }
 }
 
-#[derive(Clone, Copy)]
-enum Byte {
-    Value(u8),
-    None,
+impl Error for Malformed {}
+
+impl From<Malformed> for io::Error {
+    ghost use Rattle.std.specs.Prelude.{◌≡◌};
+    ghost use Rattle.std.specs.IoError.{error_kind};
+    ghost use Rattle.std.specs.declared.io.ErrorKind.TheVariants.{InvalidData};
+
+    ghost from_gives = { λ _ error. error_kind error ≡ InvalidData };
+
+    fn from(_malformed: Malformed) -> io::Error {
+        io::Error::new(ErrorKind::InvalidData, "malformed frame")
+    }
 }
 
-#[derive(Clone, Copy)]
-enum Length {
-    Value(usize),
-    Bad,
-}
-
-fn read_byte<R: Read>(input: &mut R) -> Byte
+fn read_byte<R: Read>(input: &mut R) -> Option<u8>
     ensures { ByteTaken (R.remaining input.old) (R.remaining input.new) result }
 {
     let mut one = [0u8; 1];
     match input.read(&mut one) {
-        Ok(1) => Byte::Value(one[0]),
-        Ok(_) => Byte::None,
-        Err(_) => Byte::None,
+        Ok(1) => Some(one[0]),
+        _ => None,
     }
 }
 
@@ -49,60 +57,87 @@ fn read_line<R: Read>(input: &mut R, line: &mut [u8]) -> usize
     ensures left { LineLeft line.old line.new result }
     ensures taken { Consumes (R.remaining input.old) (R.remaining input.new) (take result line.new) }
 {
-    let mut n: usize = 0;
-    while n < line.len() {
-        let Byte::Value(b) = read_byte(input) else {
-            return n;
+    for i in 0..line.len() {
+        let Some(b) = read_byte(input) else {
+            return i;
         };
-        line[n] = b;
-        n += 1;
+        line[i] = b;
         if b == b'\n' {
-            return n;
+            return i + 1;
         }
     }
-    n
+    line.len()
 }
 
 // The length that a frame's first line says.
-fn length_of(line: &[u8]) -> Length
+fn length_of(line: &[u8]) -> Option<usize>
     ensures value { result ≡ length_of line.now }
-    ensures within { LengthWithin result }
+    ensures within { IfSome result (λ n. n ≤ longest_frame) }
 {
-    if line.len() == 0 {
-        return Length::Bad;
-    }
-    if line[0] != b'#' {
-        return Length::Bad;
+    if !line.starts_with(b"#") {
+        return None;
     }
     let Number::Value(n, end) = fields::read_number(line, 1) else {
-        return Length::Bad;
+        return None;
     };
-    let End::LineFeed = fields::ends(line, end) else {
-        return Length::Bad;
-    };
-    Length::Value(n as usize)
+    match fields::ends(line, end) {
+        End::LineFeed => Some(n as usize),
+        _ => None,
+    }
 }
 
-// Reads one frame to the start of the room.
-pub fn read<R: Read>(input: &mut R, room: &mut [u8]) -> Frame
+// Reads one frame to the start of the room: its length, or none at the end of the input.
+pub fn read<R: Read>(input: &mut R, room: &mut [u8]) -> Result<Option<usize>, Malformed>
     ensures left { FrameLeft room.old room.new result }
     ensures taken { FrameTaken (R.remaining input.old) (R.remaining input.new) room.new result }
 {
     let mut head = [0u8; 7];
     let n = read_line(input, &mut head);
     if n == 0 {
-        return Frame::End;
+        return Ok(None);
     }
-    let Length::Value(length) = length_of(&head[..n]) else {
-        return Frame::Malformed;
+    let Some(length) = length_of(&head[..n]) else {
+        return Err(Malformed);
     };
     if room.len() < length {
-        return Frame::Malformed;
+        return Err(Malformed);
     }
     if input.read_exact(&mut room[..length]).is_err() {
-        return Frame::Malformed;
+        return Err(Malformed);
     }
-    Frame::Read(length)
+    Ok(Some(length))
+}
+
+// Has each frame of the input answered, to its end.
+pub fn each<R: Read, W: Write, F: FnMut(&mut W, &[u8]) -> io::Result<()>>(
+    input: &mut R,
+    output: &mut W,
+    room: &mut [u8],
+    mut reply: F,
+) -> io::Result<()>
+    requires { F.IsAlwaysCallable reply }
+    ensures { OnOk result ((last : F) × EachAnswered F.FnMut (R.remaining input.old) (R.remaining input.new)
+        (reply, output.old) (last, output.new)) }
+{
+    for _ in 0..u64::MAX {
+        let Some(length) = read(input, room)? else {
+            return Ok(());
+        };
+        reply(output, &room[..length])?;
+    }
+    Ok(())
+}
+
+// Tells on standard error why a program over frames ended before its input, where it did.
+pub fn explain<P: Eprint>(rt: &P, program: &str, done: io::Result<()>) {
+    let Err(error) = done else {
+        return;
+    };
+    let place = match error.kind() {
+        ErrorKind::InvalidData => "",
+        _ => "standard output: ",
+    };
+    let _ = eprintln!(rt; "{program}: {place}{error}");
 }
 
 // The first line of a frame of n bytes, at the start of `head`: its length.

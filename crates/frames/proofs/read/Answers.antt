@@ -6,4 +6,4 @@ use Rattle.frames.proofs.read.Goals as goal
 
 pub returns-then-is_err-clause-left : goal.returns-then-is_err-clause-left
 returns-then-is_err-clause-left g c =
-    kept_further c.in-Value.length longest_frame _ _ c.in-Value.ensures.within (kept_behind c.in-Value.length c.read_exact.new.buf c.args.room.now c.if-room-length.false (search rules))
+    kept_further c.in-Some.length longest_frame _ _ c.in-Some.ensures.within (kept_behind c.in-Some.length c.read_exact.new.buf c.args.room.now c.if-room-length.false (search rules))

@@ -4,11 +4,11 @@ use Rattle.std.specs.Io.KnownBytes.{Consumes}
 use Rattle.frames.proofs.Laws.{LineReading}
 use Rattle.frames.proofs.read_line.Given as goal
 
-abbrev pub invariant-loop-n : goal.invariant-loop-n
-invariant-loop-n g l = record {
-  reading : LineReading l.initial.line l.line l.n;
-  taken : Consumes (g.R.Read.remaining l.initial.input) (g.R.Read.remaining l.input) (take l.n l.line);
+abbrev pub invariant-loop-i : goal.invariant-loop-i
+invariant-loop-i g l = record {
+  reading : LineReading l.initial.line l.line l.i;
+  taken : Consumes (g.R.Read.remaining l.initial.input) (g.R.Read.remaining l.input) (take l.i l.line);
 }
 
-abbrev pub decreases-loop-n : goal.decreases-loop-n
-decreases-loop-n g l = length l.initial.line - l.n
+abbrev pub decreases-loop-i : goal.decreases-loop-i
+decreases-loop-i g l = length l.initial.line - l.i
