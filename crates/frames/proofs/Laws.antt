@@ -10,7 +10,6 @@ use Rattle.lists.specs.Sets.{Wrote}
 use Rattle.lists.specs.Split.{by_equal}
 use Rattle.paper.specs.Text.{Bytes, line_feed}
 use Rattle.fields.specs.Fields.{number_at, end_at}
-use Rattle.fields.specs.declared.Number.TheVariants as number
 use Rattle.fields.specs.declared.End as End
 use Rattle.fields.specs.declared.End.TheVariants as end
 use Rattle.frames.specs.Frame.{hash, length_ended, length_behind, length_of, LineLeft}
@@ -56,24 +55,14 @@ module _ (line : Bytes) where
   no_hash e = rw (← hash_test line, ← e) refl
 
   module _ (h : true ≡ starts_with eqb line (hash ∷ [])) where
-    pub no_number : number_at line 1 ≡ number.Bad → ◌≡◌ {A = Option ℕ} None (length_of line)
+    pub no_number : None ≡ number_at line 1 → ◌≡◌ {A = Option ℕ} None (length_of line)
     unfolding length_of length_behind
-    no_number e = rw (← hash_test line, ← h, e) refl
+    no_number e = rw (← hash_test line, ← h, ← e) refl
 
-    number_ended : {n next : ℕ} → number_at line 1 ≡ number.Value n next → length_ended n (end_at line next) ≡ length_of line
-    unfolding length_of length_behind
-    number_ended e = rw (← hash_test line, ← h, e) refl
-
-    pub ended : {n next : ℕ} → number_at line 1 ≡ number.Value n next → end.LineFeed ≡ end_at line next → ◌≡◌ {A = Option ℕ} (Some n) (length_of line)
-    unfolding length_ended
-    ended says ends = rw (← ends) at (number_ended says)
-
-    pub not_ended : {n next : ℕ} (e : End.End) → number_at line 1 ≡ number.Value n next → e ≡ end_at line next → (e ≡ end.LineFeed → ⊥)
-        → ◌≡◌ {A = Option ℕ} None (length_of line)
-    unfolding length_ended
-    not_ended end.Tab says ends d = rw (← ends) at (number_ended says)
-    not_ended end.LineFeed says ends d = absurd (d refl)
-    not_ended end.Neither says ends d = rw (← ends) at (number_ended says)
+    module _ {n next : ℕ} (says : ◌≡◌ {A = Option (ℕ × ℕ)} (Some (n, next)) (number_at line 1)) where
+      pub ended : {e : Option End.End} → e ≡ end_at line next → length_ended n e ≡ length_of line
+      unfolding length_of length_behind
+      ended e = rw (← hash_test line, ← h, ← says, ← e) refl
 
 -- the room
 

@@ -8,8 +8,6 @@ use Rattle.std.specs.declared.io.Error.{Error}
 use denote.Ref.{Bor, MutBor}
 use Rattle.paper.specs.Text.{Bytes, line_feed, digits}
 use Rattle.fields.specs.Fields.{number_at, end_at}
-use Rattle.fields.specs.declared.Number as Number
-use Rattle.fields.specs.declared.Number.TheVariants as number
 use Rattle.fields.specs.declared.End as End
 use Rattle.fields.specs.declared.End.TheVariants as end
 use Rattle.frames.specs.declared.Malformed.{Malformed}
@@ -22,14 +20,14 @@ abbrev pub longest_frame : ℕ
 longest_frame = 99999
 
 -- the length that a line says: `#`, a number as sheets spell it, LF
-unfoldable pub length_ended : ℕ → End.End → Option ℕ
-length_ended n end.LineFeed = Some n
-length_ended n end.Tab = None
-length_ended n end.Neither = None
+unfoldable pub length_ended : ℕ → Option End.End → Option ℕ
+length_ended n (Some end.LineFeed) = Some n
+length_ended n (Some end.Tab) = None
+length_ended n None = None
 
-unfoldable pub length_behind : Bytes → Number.Number → Option ℕ
-length_behind line number.Bad = None
-length_behind line (number.Value n next) = length_ended n (end_at line next)
+unfoldable pub length_behind : Bytes → Option (ℕ × ℕ) → Option ℕ
+length_behind line None = None
+length_behind line (Some x) = length_ended x.0 (end_at line x.1)
 
 unfoldable pub length_of : Bytes → Option ℕ
 length_of line = cond (eqb (get_or line 0 0) hash) (length_behind line (number_at line 1)) None

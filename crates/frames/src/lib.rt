@@ -7,7 +7,7 @@ ghost use Rattle.std.specs.Io.KnownBytes.{Appends, Consumes};
 ghost use Rattle.lists.specs.Sets.{Wrote};
 ghost use Rattle.frames.specs.Frame.{longest_frame, longest_head, frame_head, framed, length_of, ByteTaken, LineLeft, FrameLeft, FrameTaken, EachAnswered};
 
-use fields::{End, Number};
+use fields::End;
 use std::error::Error;
 use std::io::{Eprint, ErrorKind, Read, Write};
 use std::{fmt, io};
@@ -77,12 +77,10 @@ fn length_of(line: &[u8]) -> Option<usize>
     if !line.starts_with(b"#") {
         return None;
     }
-    let Number::Value(n, end) = fields::read_number(line, 1) else {
-        return None;
-    };
-    match fields::ends(line, end) {
+    let (n, end) = fields::read_number(line, 1)?;
+    match fields::ends(line, end)? {
         End::LineFeed => Some(n as usize),
-        _ => None,
+        End::Tab => None,
     }
 }
 
