@@ -1,5 +1,5 @@
 -- A request is the letter of a rule, in upper case for a sealed report, and a sheet; what it is answered with.
-use Rattle.std.specs.Prelude.{◌≡◌, List, [], ◌∷◌, cond, ℕ, ◌≤◌, eqb, length}
+use Rattle.std.specs.Prelude.{◌≡◌, List, [], ◌∷◌, cond, ℕ, ◌≤◌, eqb, length, Option, None, Some, IfSome}
 use Rattle.paper.specs.Text.{Bytes}
 use Rattle.paper.specs.Limits.{report_size, sealed_size}
 use Rattle.paper.specs.Answer.{Lent, answer, written}
@@ -7,9 +7,7 @@ use Rattle.paper.specs.Seal.{sealed_said}
 use Rattle.paper.specs.declared.Rule.TheVariants as rule
 use Rattle.checker.specs.Checked.{TextOutcome, text_outcome}
 use Rattle.answers.specs.declared.Asked.{Asked}
-use Rattle.answers.specs.declared.Asked.TheVariants.{For, Sealed, Nothing}
-use Rattle.answers.specs.declared.Reply.{Reply}
-use Rattle.answers.specs.declared.Reply.TheVariants.{Text, Malformed}
+use Rattle.answers.specs.declared.Asked.TheVariants.{For, Sealed}
 
 abbrev pub letter_h : ℕ
 letter_h = 104
@@ -24,34 +22,31 @@ abbrev pub letter_O : ℕ
 letter_O = 79
 
 -- the rule that a letter asks for, with or without a seal
-unfoldable pub rule_asked : ℕ → Asked
+unfoldable pub rule_asked : ℕ → Option Asked
 rule_asked letter =
-    cond (eqb letter letter_h) (For rule.House)
-    (cond (eqb letter letter_o) (For rule.Old) (cond (eqb letter letter_H) (Sealed rule.House) (cond (eqb letter letter_O) (Sealed rule.Old) Nothing)))
+    cond (eqb letter letter_h) (Some (For rule.House))
+    (cond (eqb letter letter_o) (Some (For rule.Old))
+    (cond (eqb letter letter_H) (Some (Sealed rule.House)) (cond (eqb letter letter_O) (Some (Sealed rule.Old)) None)))
 
 pub record ReplyOutcome : Type 0 where
-  pub reply : Reply
+  pub reply : Option ℕ
   pub buffers : Lent
 
 abbrev pub texted : TextOutcome → ReplyOutcome
-texted t = record { reply = Text t.text_length; buffers = t.buffers }
+texted t = record { reply = Some t.text_length; buffers = t.buffers }
 
 -- under a rule the text is the answer to the sheet; where none is asked for nothing changes
-unfoldable pub reply_under : Asked → Bytes → Lent → ReplyOutcome
-reply_under (For rule) sheet before = texted (text_outcome report_size (written (answer rule sheet)) before)
-reply_under (Sealed rule) sheet before = texted (text_outcome sealed_size (written (sealed_said (answer rule sheet))) before)
-reply_under Nothing sheet before = record { reply = Malformed; buffers = before }
+unfoldable pub reply_under : Option Asked → Bytes → Lent → ReplyOutcome
+reply_under (Some (For rule)) sheet before = texted (text_outcome report_size (written (answer rule sheet)) before)
+reply_under (Some (Sealed rule)) sheet before = texted (text_outcome sealed_size (written (sealed_said (answer rule sheet))) before)
+reply_under None sheet before = record { reply = None; buffers = before }
 
 -- the first byte asks for the rule, and the sheet is what stands behind it
 unfoldable pub reply_outcome : Bytes → Lent → ReplyOutcome
-reply_outcome [] before = record { reply = Malformed; buffers = before }
+reply_outcome [] before = record { reply = None; buffers = before }
 reply_outcome (letter ∷ sheet) before = reply_under (rule_asked letter) sheet before
 
-abbrev pub ReplyFits : Reply → List ℕ → Type 0
-ReplyFits (Text n) report = n ≤ length report
-ReplyFits Malformed report = Unit {0}
-
 -- the whole of an answer to a request
-pub record Replied (request : Bytes) (before after : Lent) (r : Reply) : Type 0 where
+pub record Replied (request : Bytes) (before after : Lent) (r : Option ℕ) : Type 0 where
   pub whole : ◌≡◌ {A = ReplyOutcome} (record { reply = r; buffers = after }) (reply_outcome request before)
-  pub fits : ReplyFits r after.report
+  pub fits : IfSome r (λ n. n ≤ length after.report)

@@ -8,10 +8,10 @@ ghost use Rattle.regcheck.specs.Program.{AnswersInput};
 
 use layout::{QUEUE_SIZE, REPORT_SIZE, WORDS_SIZE};
 use paper::Rule;
-use std::io;
 use std::io::{Read, Write};
+use std::{fmt, io};
 
-// How much was read, and why a read failed, where one did.
+// How much was read, and why a read failed, where one did. It is no `Result`, since what was taken is known of a failed read too.
 #[derive(Clone, Copy)]
 struct Input {
     pub count: usize,
@@ -25,6 +25,15 @@ enum Failure {
     Output(io::Error),
 }
 
+impl fmt::Display for Failure {
+    fn fmt<W: fmt::Write>(&self, f: &mut fmt::Formatter<W>) -> fmt::Result {
+        match self {
+            Failure::Input(error) => write!(f, "standard input: {error}"),
+            Failure::Output(error) => write!(f, "standard output: {error}"),
+        }
+    }
+}
+
 // Reads until the room is full or the input ends.
 fn read_sheet<R: Read>(input: &mut R, room: &mut [u8]) -> Input
     ensures within { result.count ≤ length room.new }
@@ -36,21 +45,21 @@ fn read_sheet<R: Read>(input: &mut R, room: &mut [u8]) -> Input
         match input.read(&mut room[count..]) {
             Ok(0) => {
                 return Input {
-                    count: count,
+                    count,
                     failure: None,
                 };
             }
             Ok(n) => count += n,
             Err(error) => {
                 return Input {
-                    count: count,
+                    count,
                     failure: Some(error),
                 };
             }
         }
     }
     Input {
-        count: count,
+        count,
         failure: None,
     }
 }
@@ -80,13 +89,7 @@ fn answer<R: Read, W: Write>(input: &mut R, output: &mut W) -> Result<(), Failur
 }
 
 fn main(rt: HostRuntime) {
-    match answer(&mut rt.stdin(), &mut rt.stdout()) {
-        Ok(()) => {}
-        Err(Failure::Input(error)) => {
-            let _ = eprintln!(rt; "regcheck: standard input: {error}");
-        }
-        Err(Failure::Output(error)) => {
-            let _ = eprintln!(rt; "regcheck: standard output: {error}");
-        }
+    if let Err(failure) = answer(&mut rt.stdin(), &mut rt.stdout()) {
+        let _ = eprintln!(rt; "regcheck: {failure}");
     }
 }

@@ -5,11 +5,10 @@
 
 ghost use Rattle.std.specs.Prelude.{◌≤◌, length};
 
-use frames::Frame;
 use layout::{MAX_SHEET, QUEUE_SIZE, WORDS_SIZE};
 use paper::{Rule, Written};
 use std::io;
-use std::io::{ErrorKind, Read, Write};
+use std::io::{Read, Write};
 
 // The sheet written back, or `X number line field`: its length.
 fn reply_to(sheet: &[u8], text: &mut [u8], words: &mut [u16], queue: &mut [u8]) -> usize
@@ -35,52 +34,17 @@ fn write_reply<W: Write>(
     frames::write(output, &text[..length])
 }
 
-// What ends the run where a frame is malformed.
-fn malformed() -> io::Error {
-    io::Error::new(ErrorKind::InvalidData, "malformed frame")
-}
-
-// One frame: whether to go on.
-fn one<R: Read, W: Write>(
-    input: &mut R,
-    output: &mut W,
-    sheet: &mut [u8],
-    text: &mut [u8],
-    words: &mut [u16; WORDS_SIZE],
-    queue: &mut [u8; QUEUE_SIZE],
-) -> io::Result<bool> {
-    let frame = frames::read(input, sheet);
-    match frame {
-        Frame::Read(length) => {
-            write_reply(output, &sheet[..length], text, words, queue)?;
-            Ok(true)
-        }
-        Frame::End => Ok(false),
-        Frame::Malformed => Err(malformed()),
-    }
-}
-
 // Every sheet, to the end of the input.
 fn write_all<R: Read, W: Write>(input: &mut R, output: &mut W) -> io::Result<()> {
     let mut sheet = [0u8; 70000];
     let mut text = [0u8; MAX_SHEET];
     let mut words = [0u16; WORDS_SIZE];
     let mut queue = [0u8; QUEUE_SIZE];
-    for _ in 0..u64::MAX {
-        if !one(input, output, &mut sheet, &mut text, &mut words, &mut queue)? {
-            break;
-        }
-    }
-    Ok(())
+    frames::each(input, output, &mut sheet, |output, sheet| {
+        write_reply(output, sheet, &mut text, &mut words, &mut queue)
+    })
 }
 
 fn main(rt: HostRuntime) {
-    if let Err(error) = write_all(&mut rt.stdin(), &mut rt.stdout()) {
-        let place = if matches!(error.kind(), ErrorKind::InvalidData) {
-            ""
-        } else {
-            "standard output: "
-        };
-        let _ = eprintln!(rt; "writes: {place}{error}");
-    }
+    frames::explain(&rt, "writes", write_all(&mut rt.stdin(), &mut rt.stdout()));
 }
