@@ -6,32 +6,24 @@
 
 ghost use Rattle.std.specs.Prelude.{◌≤◌, length};
 
-use frames::Frame;
 use paper::Written;
 use std::io;
-use std::io::{ErrorKind, Read, Write};
+use std::io::{Read, Write};
 
 const HEAD: usize = 3;
-
-fn word_of(low: u8, high: u8) -> u16 {
-    low as u16 + high as u16 * 256
-}
 
 // The words behind the head, as many as there are and as there is room for: how many.
 fn unpack(bytes: &[u8], words: &mut [u16]) -> usize
     ensures { result ≤ length words.new }
 {
-    let mut count: usize = 0;
-    let mut at: usize = HEAD;
-    while count < words.len() {
-        if bytes.len() <= at + 1 {
-            break;
-        }
-        words[count] = word_of(bytes[at], bytes[at + 1]);
-        count += 1;
-        at += 2;
+    let Some(rest) = bytes.get(HEAD..) else {
+        return 0;
+    };
+    let (pairs, _) = rest.as_chunks::<2>();
+    for (word, pair) in words.iter_mut().zip(pairs) {
+        *word = u16::from_le_bytes(*pair);
     }
-    count
+    words.len().min(pairs.len())
 }
 
 // The size that the head names, and at most `most`.
@@ -41,16 +33,8 @@ fn size_of(bytes: &[u8], most: usize) -> usize
     if bytes.len() < HEAD {
         return 0;
     }
-    let size = word_of(bytes[0], bytes[1]) as usize + word_of(bytes[2], 0) as usize * 65536;
-    if most < size { most } else { size }
-}
-
-fn fill(room: &mut [u8]) {
-    let mut i = 0;
-    while i < room.len() {
-        room[i] = b'.';
-        i += 1;
-    }
+    let size = u32::from_le_bytes([bytes[0], bytes[1], bytes[2], 0]);
+    most.min(size as usize)
 }
 
 // The first two frames.
@@ -74,35 +58,21 @@ fn write_answer<W: Write>(output: &mut W, words: &[u16], room: &mut [u8]) -> io:
 
 // The three frames of one form.
 fn write_reply<W: Write>(output: &mut W, words: &[u16], room: &mut [u8]) -> io::Result<()> {
-    fill(room);
+    room.fill(b'.');
     write_answer(output, words, room)?;
     frames::write(output, room)
 }
 
-// What ends the run where a frame is malformed.
-fn malformed() -> io::Error {
-    io::Error::new(ErrorKind::InvalidData, "malformed frame")
-}
-
-// One frame: whether to go on.
-fn one<R: Read, W: Write>(
-    input: &mut R,
+// The frames that answer a form.
+fn write_form<W: Write>(
     output: &mut W,
-    bytes: &mut [u8],
+    bytes: &[u8],
     words: &mut [u16],
     room: &mut [u8],
-) -> io::Result<bool> {
-    let frame = frames::read(input, bytes);
-    match frame {
-        Frame::Read(length) => {
-            let count = unpack(&bytes[..length], words);
-            let size = size_of(&bytes[..length], room.len());
-            write_reply(output, &words[..count], &mut room[..size])?;
-            Ok(true)
-        }
-        Frame::End => Ok(false),
-        Frame::Malformed => Err(malformed()),
-    }
+) -> io::Result<()> {
+    let count = unpack(bytes, words);
+    let size = size_of(bytes, room.len());
+    write_reply(output, &words[..count], &mut room[..size])
 }
 
 // Every form, to the end of the input.
@@ -110,21 +80,11 @@ fn write_all<R: Read, W: Write>(input: &mut R, output: &mut W) -> io::Result<()>
     let mut bytes = [0u8; 70000];
     let mut words = [0u16; 33000];
     let mut room = [0u8; 66000];
-    for _ in 0..u64::MAX {
-        if !one(input, output, &mut bytes, &mut words, &mut room)? {
-            break;
-        }
-    }
-    Ok(())
+    frames::each(input, output, &mut bytes, |output, bytes| {
+        write_form(output, bytes, &mut words, &mut room)
+    })
 }
 
 fn main(rt: HostRuntime) {
-    if let Err(error) = write_all(&mut rt.stdin(), &mut rt.stdout()) {
-        let place = if matches!(error.kind(), ErrorKind::InvalidData) {
-            ""
-        } else {
-            "standard output: "
-        };
-        let _ = eprintln!(rt; "forms: {place}{error}");
-    }
+    frames::explain(&rt, "forms", write_all(&mut rt.stdin(), &mut rt.stdout()));
 }

@@ -6,12 +6,11 @@
 
 ghost use Rattle.std.specs.Prelude.{◌≤◌, length};
 
-use frames::Frame;
 use layout::{MAX_SHEET, QUEUE_SIZE, WORDS_SIZE};
 use paper::{Answer, Rule, Written};
 use states::Part;
 use std::io;
-use std::io::{ErrorKind, Read, Write};
+use std::io::{Read, Write};
 
 // One part of a sheet's texts under both rules.
 fn write_part<W: Write>(
@@ -34,9 +33,8 @@ fn sealed_length(sheet: &[u8], text: &mut [u8], words: &mut [u16], queue: &mut [
 {
     let said = sealed::check_sealed(Rule::House, sheet, text, words, queue);
     match said {
-        Answer::Accepted(length) => length,
-        Answer::Faulty(length) => length,
-        Answer::Refused(refusal) => 0,
+        Answer::Accepted(length) | Answer::Faulty(length) => length,
+        Answer::Refused(_) => 0,
     }
 }
 
@@ -59,8 +57,7 @@ fn back_length(sheet: &[u8], text: &mut [u8], words: &mut [u16]) -> usize
     let written = writer::write_back(sheet, words, text);
     match written {
         Written::Text(length) => length,
-        Written::NoSheet => 0,
-        Written::NoRoom => 0,
+        Written::NoSheet | Written::NoRoom => 0,
     }
 }
 
@@ -89,31 +86,6 @@ fn write_frames<W: Write>(
     write_back(output, sheet, text, words)
 }
 
-// What ends the run where a frame is malformed.
-fn malformed() -> io::Error {
-    io::Error::new(ErrorKind::InvalidData, "malformed frame")
-}
-
-// One frame: whether to go on.
-fn one<R: Read, W: Write>(
-    input: &mut R,
-    output: &mut W,
-    sheet: &mut [u8],
-    text: &mut [u8],
-    words: &mut [u16; WORDS_SIZE],
-    queue: &mut [u8; QUEUE_SIZE],
-) -> io::Result<bool> {
-    let frame = frames::read(input, sheet);
-    match frame {
-        Frame::Read(length) => {
-            write_frames(output, &sheet[..length], text, words, queue)?;
-            Ok(true)
-        }
-        Frame::End => Ok(false),
-        Frame::Malformed => Err(malformed()),
-    }
-}
-
 // Every sheet, to the end of the input.
 fn answer_all<R: Read, W: Write>(input: &mut R, output: &mut W) -> io::Result<()> {
     let mut sheet = [0u8; 70000];
@@ -121,21 +93,11 @@ fn answer_all<R: Read, W: Write>(input: &mut R, output: &mut W) -> io::Result<()
     let mut text = [0u8; MAX_SHEET];
     let mut words = [0u16; WORDS_SIZE];
     let mut queue = [0u8; QUEUE_SIZE];
-    for _ in 0..u64::MAX {
-        if !one(input, output, &mut sheet, &mut text, &mut words, &mut queue)? {
-            break;
-        }
-    }
-    Ok(())
+    frames::each(input, output, &mut sheet, |output, sheet| {
+        write_frames(output, sheet, &mut text, &mut words, &mut queue)
+    })
 }
 
 fn main(rt: HostRuntime) {
-    if let Err(error) = answer_all(&mut rt.stdin(), &mut rt.stdout()) {
-        let place = if matches!(error.kind(), ErrorKind::InvalidData) {
-            ""
-        } else {
-            "standard output: "
-        };
-        let _ = eprintln!(rt; "stream: {place}{error}");
-    }
+    frames::explain(&rt, "stream", answer_all(&mut rt.stdin(), &mut rt.stdout()));
 }
