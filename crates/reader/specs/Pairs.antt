@@ -1,5 +1,6 @@
 -- The two numbers of document 01's `S slot reg`, `L reg slot` and `M into from`, and what is told of them at a place of a text.
-use Rattle.std.specs.Prelude.{◌≡◌, ℕ}
+use Rattle.std.specs.Prelude as read
+use Rattle.std.specs.Prelude.{◌≡◌, ℕ, Some, None}
 use Rattle.std.proofs.Math.Path.{refl}
 use Rattle.std.proofs.Common.{◌∙◌}
 use mathlib.Core.List.{List, [], ◌∷◌}
@@ -8,8 +9,6 @@ use Rattle.paper.specs.Text.{Bytes, fields, number_of}
 use Rattle.paper.specs.Sheet.{Step}
 use Rattle.paper.specs.Refusals.{Record, step_record, Read, ◌>>=◌, next, ended, two_numbers_of}
 use Rattle.fields.specs.Fields.{line_at, line_end}
-use Rattle.reader.specs.declared.Pair as Pair
-use Rattle.reader.specs.declared.Pair.TheVariants as pair
 
 -- two numbers, and no field more
 unfoldable pub pair_of : List Bytes → Option (ℕ × ℕ)
@@ -19,17 +18,17 @@ pair_of fs = do
   ended b.rest (a.value, b.value)
 
 -- what is told of a line that was read up to its end
-unfoldable pub pair_told : ℕ → Option (ℕ × ℕ) → Pair.Pair
-pair_told end none = pair.Bad
-pair_told end (some p) = pair.Value p.0 p.1 end
+unfoldable pub pair_told : ℕ → Option (ℕ × ℕ) → read.Option (ℕ × ℕ × ℕ)
+pair_told end none = None
+pair_told end (some p) = Some (p.0, p.1, end)
 
-unfoldable pub pair_at : Bytes → ℕ → Pair.Pair
+unfoldable pub pair_at : Bytes → ℕ → read.Option (ℕ × ℕ × ℕ)
 pair_at s at = pair_told (line_end s at) (pair_of (fields (line_at s at)))
 
 -- the record of a step of two numbers, where both were read
-abbrev pub record_told : (ℕ → ℕ → Step) → Pair.Pair → Option Record
-record_told step pair.Bad = none
-record_told step (pair.Value a b end) = some (step_record (step a b))
+abbrev pub record_told : (ℕ → ℕ → Step) → read.Option (ℕ × ℕ × ℕ) → Option Record
+record_told step None = none
+record_told step (Some p) = some (step_record (step p.0 p.1))
 
 module _ (step : ℕ → ℕ → Step) where
   abbrev made : ℕ × ℕ → Record
