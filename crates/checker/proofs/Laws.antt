@@ -1,5 +1,5 @@
 -- From what the callees promise to what is said of a sheet, and from that to the paper's outcome.
-use Rattle.std.specs.Prelude.{Option, None}
+use Rattle.std.specs.Prelude.{Result, Ok, Err, Option, None}
 use mathlib.Core.Path.{◌≡◌, refl, sym, ap, ◌∙◌, subst}
 use mathlib.Core.Bool.{true, false}
 use mathlib.Core.List.{List, [], ◌∷◌}
@@ -23,8 +23,6 @@ use Rattle.layout.specs.Layout.{state_at, mark_at}
 use Rattle.walks.specs.Reading.{read_few}
 use Rattle.loaded.specs.Loaded.{sheet_of, Loaded}
 use Rattle.sheet.specs.Reading.{loading_of, Load}
-use Rattle.sheet.specs.declared.Loading as Loading
-use Rattle.sheet.specs.declared.Loading.TheVariants as loading
 use Rattle.cells.specs.States.{stored_state}
 use Rattle.tables.specs.Table.{mark_of}
 use Rattle.runs.specs.Stands.{Analysed, analysed_sheet, analysed_loaded}
@@ -86,25 +84,25 @@ module _ {rule : Rule} {words queue words' queue' : List ℕ} (loads : Loaded wo
   }
 
 -- a sheet that was loaded, or was refused
-pub loads_sheet : {sheet : Bytes} {before after : List ℕ} {r : Loading.Loading} → Load sheet before after r → r ≡ loading.Loaded → (S : Sheet) × (read sheet ≡ loaded S)
+pub loads_sheet : {sheet : Bytes} {before after : List ℕ} {r : Result (Unit {0}) Refusal} → Load sheet before after r → r ≡ (Ok tt) → (S : Sheet) × (read sheet ≡ loaded S)
 unfolding loading_of
 loads_sheet {sheet} l e = go (read sheet) refl (sym l.answer ∙ e)
   where
-    go : (o : Reading) → read sheet ≡ o → loading_of o ≡ loading.Loaded → (S : Sheet) × (read sheet ≡ loaded S)
+    go : (o : Reading) → read sheet ≡ o → loading_of o ≡ (Ok tt) → (S : Sheet) × (read sheet ≡ loaded S)
     go (loaded S) h f = (S, h)
     go (refused refusal) h f = let z : ◌≡◌ {A = ℕ} 0 1 = cc in absurd (omega arith)
 
-pub refuses_sheet : {sheet : Bytes} {before after : List ℕ} {r : Loading.Loading} {refusal : Refusal} → Load sheet before after r → r ≡ loading.Refused refusal
+pub refuses_sheet : {sheet : Bytes} {before after : List ℕ} {r : Result (Unit {0}) Refusal} {refusal : Refusal} → Load sheet before after r → r ≡ Err refusal
     → read sheet ≡ refused refusal
 unfolding loading_of
 refuses_sheet {sheet} {refusal} l e = go (read sheet) refl (sym l.answer ∙ e)
   where
-    go : (o : Reading) → read sheet ≡ o → loading_of o ≡ loading.Refused refusal → read sheet ≡ refused refusal
+    go : (o : Reading) → read sheet ≡ o → loading_of o ≡ Err refusal → read sheet ≡ refused refusal
     go (loaded S) h f = let z : ◌≡◌ {A = ℕ} 0 1 = cc in absurd (omega arith)
     go (refused other) h f = h ∙ (cc)
 
-module _ {sheet : Bytes} {before after : List ℕ} {r : Loading.Loading} (l : Load sheet before after r) where
-  module _ (e : r ≡ loading.Loaded) where
+module _ {sheet : Bytes} {before after : List ℕ} {r : Result (Unit {0}) Refusal} (l : Load sheet before after r) where
+  module _ (e : r ≡ (Ok tt)) where
     pub loaded_words : Loaded after
     loaded_words = (l.meaning (loads_sheet l e).0 (loads_sheet l e).1).1
 
@@ -120,7 +118,7 @@ module _ {sheet : Bytes} {before after : List ℕ} {r : Loading.Loading} (l : Lo
     said_of_loaded rule = ap (λ (S : Sheet). said_of rule (entries rule S)) is_sheet ∙ sym (ap (said_after rule) (loads_sheet l e).1)
 
   -- a refusal is said as it is
-  pub refused_answer : (rule : Rule) {report words queue : List ℕ} {refusal : Refusal} → r ≡ loading.Refused refusal → length after ≡ length words
+  pub refused_answer : (rule : Rule) {report words queue : List ℕ} {refusal : Refusal} → r ≡ Err refusal → length after ≡ length words
       → Answered (answer rule sheet) report words queue report after queue (Refused refusal)
   unfolding answer said_after answer_of report_of
   refused_answer rule {report} {words} {queue} {refusal} e w =

@@ -8,11 +8,10 @@ ghost use Rattle.paper.specs.Limits.{report_size, words_size, queue_size};
 ghost use Rattle.paper.specs.Report.{entries};
 ghost use Rattle.paper.specs.Answer as paper_answer;
 ghost use Rattle.loaded.specs.Loaded.{sheet_of, Loaded};
-ghost use Rattle.checker.specs.Checked.{lent, Few, refusal_text, RefusalWithin, Answered, Checked, Stated, verdict_of, rule_of, Exported};
+ghost use Rattle.checker.specs.Checked.{lent, Few, refusal_text, RefusalWithin, Answered, Checked, Stated, rule_of, Exported};
 
 use layout::{QUEUE_SIZE, REPORT_SIZE, WORDS_SIZE};
 use paper::{Answer, Refusal, Rule, TOO_SHORT};
-use sheet::Loading;
 
 // An answer over the C interface: 0 accepted, 1 faulty, 2 refused; the report's length; the refusal's number, line and field.
 #[repr(C)]
@@ -48,10 +47,9 @@ fn answer(
     requires { (report_size ≤ length report.old) × (words_size ≤ length words.old) × (queue_size ≤ length queue.old) }
     ensures { Answered (paper_answer.answer rule sheet.now) report.old words.old queue.old report.new words.new queue.new result }
 {
-    let loading = sheet::load(sheet, words);
-    match loading {
-        Loading::Loaded => write_faults(rule, words, queue, report),
-        Loading::Refused(refusal) => Answer::Refused(refusal),
+    match sheet::load(sheet, words) {
+        Ok(()) => write_faults(rule, words, queue, report),
+        Err(refusal) => Answer::Refused(refusal),
     }
 }
 
@@ -87,8 +85,8 @@ pub fn check(
         });
     }
     let said = answer(rule, sheet, report, words, queue);
-    scratch::clear_words(words);
-    scratch::clear_bytes(queue);
+    scratch::clear(words);
+    scratch::clear(queue);
     said
 }
 
@@ -129,31 +127,36 @@ pub fn answer_text(
     }
 }
 
-pub fn verdict_of(said: Answer) -> Verdict
-    ensures { result ≡ verdict_of said }
-{
-    match said {
-        Answer::Accepted(length) => Verdict {
-            answer: 0,
-            number: 0,
-            length: length,
-            line: 0,
-            field: 0,
-        },
-        Answer::Faulty(length) => Verdict {
-            answer: 1,
-            number: 0,
-            length: length,
-            line: 0,
-            field: 0,
-        },
-        Answer::Refused(refusal) => Verdict {
-            answer: 2,
-            number: refusal.number,
-            length: 0,
-            line: refusal.line,
-            field: refusal.field,
-        },
+impl From<Answer> for Verdict {
+    ghost use Rattle.std.specs.Prelude.{◌≡◌};
+    ghost use Rattle.checker.specs.Checked.{verdict_of};
+
+    ghost from_gives = { λ said verdict. verdict ≡ verdict_of said };
+
+    fn from(said: Answer) -> Verdict {
+        match said {
+            Answer::Accepted(length) => Verdict {
+                answer: 0,
+                number: 0,
+                length,
+                line: 0,
+                field: 0,
+            },
+            Answer::Faulty(length) => Verdict {
+                answer: 1,
+                number: 0,
+                length,
+                line: 0,
+                field: 0,
+            },
+            Answer::Refused(refusal) => Verdict {
+                answer: 2,
+                number: refusal.number,
+                length: 0,
+                line: refusal.line,
+                field: refusal.field,
+            },
+        }
     }
 }
 
@@ -177,5 +180,5 @@ pub extern "C" fn itanropen_check(
 {
     let chosen = rule_of(rule);
     let said = check(chosen, sheet, report, words, queue);
-    verdict_of(said)
+    Verdict::from(said)
 }

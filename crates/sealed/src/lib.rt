@@ -82,5 +82,5 @@ pub extern "C" fn itanropen_check_sealed(
 {
     let chosen = checker::rule_of(rule);
     let said = check_sealed(chosen, sheet, report, words, queue);
-    checker::verdict_of(said)
+    Verdict::from(said)
 }

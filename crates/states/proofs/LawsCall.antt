@@ -1,5 +1,5 @@
 -- From what the callees promise to the text of a sheet's entry states, and from that to the outcome of a call.
-use Rattle.std.specs.Prelude.{Option, Some}
+use Rattle.std.specs.Prelude.{Result, Ok, Err, Option, Some}
 use mathlib.Core.Path.{◌≡◌, refl, sym, ap, ◌∙◌, subst}
 use mathlib.Core.Bool.{true, false, true≢false}
 use mathlib.Core.List.{List, [], ◌∷◌}
@@ -16,8 +16,6 @@ use Rattle.paper.specs.declared.Rule.{Rule}
 use Rattle.layout.specs.Layout.{blocks_word, run_words}
 use Rattle.loaded.specs.Loaded.{sheet_of, Loaded}
 use Rattle.sheet.specs.Reading.{Load}
-use Rattle.sheet.specs.declared.Loading as Loading
-use Rattle.sheet.specs.declared.Loading.TheVariants as loading
 use Rattle.steps.specs.Faults.{some_in}
 use Rattle.runs.specs.Stands.{Analysed, analysed_sheet, analysed_loaded, analysed_state}
 use Rattle.faults.specs.Missing.{step_lines, missing_lines, MissingOf}
@@ -32,13 +30,13 @@ use Rattle.states.specs.Stated.{longest_text, states_size, Written, HoldsStates}
 -- the text of a sheet
 
 -- a sheet that is refused has none
-pub refused_none : {sheet : Bytes} {before after : List ℕ} {r : Loading.Loading} {refusal : Refusal} (rule : Rule) → Load sheet before after r
-    → r ≡ loading.Refused refusal → entry_states rule sheet ≡ []
+pub refused_none : {sheet : Bytes} {before after : List ℕ} {r : Result (Unit {0}) Refusal} {refusal : Refusal} (rule : Rule) → Load sheet before after r
+    → r ≡ Err refusal → entry_states rule sheet ≡ []
 unfolding entry_states states_after
 refused_none rule l e = rw (refuses_sheet l e)
 
 -- a sheet that was loaded has what its words say
-module _ {sheet : Bytes} {before after : List ℕ} {r : Loading.Loading} (rule : Rule) (l : Load sheet before after r) (e : r ≡ loading.Loaded) where
+module _ {sheet : Bytes} {before after : List ℕ} {r : Result (Unit {0}) Refusal} (rule : Rule) (l : Load sheet before after r) (e : r ≡ (Ok tt)) where
   text_loaded : entry_states rule sheet ≡ unless_missing (missing_allocations (sheet_of after)) (by_block (block_text rule (sheet_of after)) 0 (get_or after blocks_word 0))
   unfolding entry_states states_after sheet_of
   text_loaded =

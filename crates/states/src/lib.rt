@@ -21,7 +21,6 @@ ghost use Rattle.states.specs.Stated.{part_text, part_size, Written, HoldsStates
 use cells::{KIND, KINDS, MARK};
 use layout::{MARK_BASE, MAX_BLOCKS, MAX_REGS, MAX_SLOTS, ROW_WORDS, STATE_BASE, STATE_WORDS};
 use paper::Rule;
-use sheet::Loading;
 
 // Bytes of a cell and of a line's head, each with its tabs.
 const CELL_SIZE: usize = 6;
@@ -142,8 +141,7 @@ fn write_states(
     requires { (states_size ≤ length out.old) × (words_size ≤ length words.old) × (queue_size ≤ length queue.old) }
     ensures { Written (text.entry_states rule sheet.now) out.old words.old queue.old out.new words.new queue.new result }
 {
-    let loading = sheet::load(sheet, words);
-    let Loading::Loaded = loading else {
+    let Ok(()) = sheet::load(sheet, words) else {
         return 0;
     };
     let None = faults::find_missing(words) else {
@@ -169,8 +167,8 @@ pub fn entry_states(
         return 0;
     }
     let length = write_states(rule, sheet, out, words, queue);
-    scratch::clear_words(words);
-    scratch::clear_bytes(queue);
+    scratch::clear(words);
+    scratch::clear(queue);
     length
 }
 

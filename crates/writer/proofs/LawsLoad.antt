@@ -20,8 +20,6 @@ use Rattle.paper.specs.declared.Refusal.{Refusal}
 use Rattle.layout.specs.Layout.{opened_word, steps_word}
 use Rattle.loaded.specs.Loaded.{first_step, step_total, succ_total, sheet_of, BlockBounds, Loaded}
 use Rattle.sheet.specs.Reading.{loading_of, Load}
-use Rattle.sheet.specs.declared.Loading.{Loading}
-use Rattle.sheet.specs.declared.Loading.TheVariants as loading
 use Rattle.spelling.specs.Theorems.{own_bytes}
 use Rattle.writer.specs.Form.{blocks_fit, fits, form_of, form_outcome}
 use Rattle.writer.specs.Within.{text_within}
@@ -52,15 +50,15 @@ loaded_form words size l =
 
 -- the call's answers
 
-loaded_not_refused : {Q : Type 0} {refusal : Refusal} (R : Reading) → R ≡ refused refusal → loading.Loaded ≡ loading_of R → Q
+loaded_not_refused : {Q : Type 0} {refusal : Refusal} (R : Reading) → R ≡ refused refusal → (Ok tt) ≡ loading_of R → Q
 unfolding loading_of
 loaded_not_refused R e p = let q = rw e at p in let z : ◌≡◌ {A = ℕ} 0 1 = cc in absurd (omega arith)
 
-refused_not_loaded : {Q : Type 0} {refusal : Refusal} (R : Reading) (S : Sheet) → R ≡ loaded S → loading.Refused refusal ≡ loading_of R → Q
+refused_not_loaded : {Q : Type 0} {refusal : Refusal} (R : Reading) (S : Sheet) → R ≡ loaded S → Err refusal ≡ loading_of R → Q
 unfolding loading_of
 refused_not_loaded R S e p = let q = rw e at p in let z : ◌≡◌ {A = ℕ} 0 1 = cc in absurd (omega arith)
 
-pub refused_short : (sheet : Bytes) (words : List ℕ) → length words < words_size → SheetLoaded sheet words words (loading.Refused too_short)
+pub refused_short : (sheet : Bytes) (words : List ℕ) → length words < words_size → SheetLoaded sheet words words (Err too_short)
 refused_short sheet words h = record {
   short = λ p. (refl, refl);
   answer = λ p. absurd (omega arith);
@@ -69,8 +67,8 @@ refused_short sheet words h = record {
   cleared = λ p refusal q. absurd (omega arith);
 }
 
-module _ {sheet : Bytes} {before after : List ℕ} {r : Loading} (size : words_size ≤ length before) (l : Load sheet before after r) where
-  pub read_loaded : r ≡ loading.Loaded → SheetLoaded sheet before after loading.Loaded
+module _ {sheet : Bytes} {before after : List ℕ} {r : Result (Unit {0}) Refusal} (size : words_size ≤ length before) (l : Load sheet before after r) where
+  pub read_loaded : r ≡ (Ok tt) → SheetLoaded sheet before after (Ok tt)
   read_loaded e = record {
     short = λ p. absurd (omega arith);
     answer = λ p. sym e ∙ l.answer;
@@ -79,8 +77,8 @@ module _ {sheet : Bytes} {before after : List ℕ} {r : Loading} (size : words_s
     cleared = λ p refusal q. loaded_not_refused (read sheet) q (sym e ∙ l.answer);
   }
 
-  pub read_refused : (refusal : Refusal) (later : List ℕ) → r ≡ loading.Refused refusal → later ≡ replicate (length after) 0
-      → SheetLoaded sheet before later (loading.Refused refusal)
+  pub read_refused : (refusal : Refusal) (later : List ℕ) → r ≡ Err refusal → later ≡ replicate (length after) 0
+      → SheetLoaded sheet before later (Err refusal)
   unfolding zeros
   read_refused refusal later e z = record {
     short = λ p. absurd (omega arith);
@@ -106,18 +104,18 @@ back_short sheet words out h = record {
   within = λ n e. no_text e;
 }
 
-refused_only : {Q : Type 0} (R : Reading) (refusal : Refusal) → loading.Refused refusal ≡ loading_of R → ((q : Refusal) → R ≡ refused q → Q) → Q
+refused_only : {Q : Type 0} (R : Reading) (refusal : Refusal) → Err refusal ≡ loading_of R → ((q : Refusal) → R ≡ refused q → Q) → Q
 unfolding loading_of
 refused_only (loaded S) refusal e k = let z : ◌≡◌ {A = ℕ} 0 1 = cc in absurd (omega arith)
 refused_only (refused q) refusal e k = k q refl
 
-loaded_only : {Q : Type 0} (R : Reading) → loading.Loaded ≡ loading_of R → ((S : Sheet) → R ≡ loaded S → Q) → Q
+loaded_only : {Q : Type 0} (R : Reading) → (Ok tt) ≡ loading_of R → ((S : Sheet) → R ≡ loaded S → Q) → Q
 unfolding loading_of
 loaded_only (loaded S) e k = k S refl
 loaded_only (refused q) e k = let z : ◌≡◌ {A = ℕ} 0 1 = cc in absurd (omega arith)
 
-module _ {sheet : Bytes} {before after : List ℕ} {r : Loading} (size : words_size ≤ length before) (l : SheetLoaded sheet before after r) (out : List ℕ) where
-  pub back_refused : (refusal : Refusal) → r ≡ loading.Refused refusal → WrittenBack sheet before out after out (Err NoSheet)
+module _ {sheet : Bytes} {before after : List ℕ} {r : Result (Unit {0}) Refusal} (size : words_size ≤ length before) (l : SheetLoaded sheet before after r) (out : List ℕ) where
+  pub back_refused : (refusal : Refusal) → r ≡ Err refusal → WrittenBack sheet before out after out (Err NoSheet)
   unfolding back_outcome
   back_refused refusal e = refused_only (read sheet) refusal (sym e ∙ l.answer size) λ q p. record {
     short = λ h. absurd (omega arith);
@@ -126,7 +124,7 @@ module _ {sheet : Bytes} {before after : List ℕ} {r : Loading} (size : words_s
     within = λ n f. no_text f;
   }
 
-  pub back_written : (written : Result ℕ Unwritten) (out' later : List ℕ) → r ≡ loading.Loaded → said written out' ≡ form_outcome (form_of after) out
+  pub back_written : (written : Result ℕ Unwritten) (out' later : List ℕ) → r ≡ (Ok tt) → said written out' ≡ form_outcome (form_of after) out
       → later ≡ replicate (length after) 0 → WrittenBack sheet before out later out' written
   unfolding back_outcome form_outcome zeros
   back_written written out' later e w z = loaded_only (read sheet) (sym e ∙ l.answer size) λ S p.
@@ -138,7 +136,7 @@ module _ {sheet : Bytes} {before after : List ℕ} {r : Loading} (size : words_s
         within = λ n f. text_within sheet out out' n (sym own ∙ ap (λ (a : Result ℕ Unwritten). said a out') f);
       }
 
-pub load_exported : {sheet : Bytes} {before after : List ℕ} {r : Loading} {v : LoadVerdict} → SheetLoaded sheet before after r → v ≡ load_verdict_of r
+pub load_exported : {sheet : Bytes} {before after : List ℕ} {r : Result (Unit {0}) Refusal} {v : LoadVerdict} → SheetLoaded sheet before after r → v ≡ load_verdict_of r
     → LoadExported sheet before after v
 load_exported s e = record {
   short = λ p. (e ∙ ap load_verdict_of (s.short p).0, (s.short p).1);

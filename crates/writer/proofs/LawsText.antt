@@ -1,5 +1,6 @@
 -- From the parts to the text: a line of its parts, a step's line by its action, a block's lines, all lines; and what the reader's answer
 -- to it says.
+use Rattle.std.specs.Prelude.{Ok, Err}
 use mathlib.Core.Path.{◌≡◌, refl, sym, ap, ◌∙◌}
 use mathlib.Core.Bool.{true, false}
 use mathlib.Core.List.{List, [], ◌∷◌, ◌++◌, map, append-nil, append_assoc}
@@ -31,7 +32,6 @@ use Rattle.loaded.specs.declared.CopyKind.{CopyKind}
 use Rattle.loaded.specs.declared.CopyKind.TheVariants.{Spill, Reload, Move}
 use Rattle.loaded.specs.declared.Action.TheVariants.{Copy, Change, Operation, Safepoint}
 use Rattle.sheet.specs.Reading.{loading_of}
-use Rattle.sheet.specs.declared.Loading.TheVariants as loading
 use Rattle.spelling.specs.Parted.{row, row_closed}
 use Rattle.spelling.specs.Added.{text_append}
 use Rattle.writer.specs.Form.{blocks_fit, BlockFits, fits, function_in, groups_text, copy_letter}
@@ -219,12 +219,12 @@ whole_text words =
 
 -- the reader's answer
 
-pub loaded_read : (R : Reading) → loading_of R ≡ loading.Loaded → true ≡ is_read R
+pub loaded_read : (R : Reading) → loading_of R ≡ (Ok tt) → true ≡ is_read R
 unfolding loading_of is_read
 loaded_read (loaded S) e = refl
 loaded_read (refused refusal) e = let z : ◌≡◌ {A = ℕ} 0 1 = cc in absurd (omega arith)
 
-pub refused_read : (R : Reading) (refusal : Refusal) → loading_of R ≡ loading.Refused refusal → false ≡ is_read R
+pub refused_read : (R : Reading) (refusal : Refusal) → loading_of R ≡ Err refusal → false ≡ is_read R
 unfolding loading_of is_read
 refused_read (loaded S) refusal e = let z : ◌≡◌ {A = ℕ} 0 1 = cc in absurd (omega arith)
 refused_read (refused q) refusal e = refl

@@ -11,8 +11,6 @@ use Rattle.paper.specs.declared.Unwritten.TheVariants.{NoSheet}
 use Rattle.paper.specs.Answer.{zeros}
 use Rattle.paper.specs.declared.Refusal.{Refusal}
 use Rattle.sheet.specs.Reading.{loading_of}
-use Rattle.sheet.specs.declared.Loading.{Loading}
-use Rattle.sheet.specs.declared.Loading.TheVariants as loading
 use Rattle.writer.specs.Form.{form_of}
 use Rattle.writer.specs.declared.LoadVerdict.{LoadVerdict}
 
@@ -20,8 +18,8 @@ use Rattle.writer.specs.declared.LoadVerdict.{LoadVerdict}
 abbrev pub too_short : Refusal
 too_short = record { number = 1; line = 0; field = 0 }
 
-pub record SheetLoaded (sheet : Bytes) (before after : List ℕ) (r : Loading) : Type 0 where
-  pub short : length before < words_size → (r ≡ loading.Refused too_short) × (after ≡ before)
+pub record SheetLoaded (sheet : Bytes) (before after : List ℕ) (r : Result (Unit {0}) Refusal) : Type 0 where
+  pub short : length before < words_size → (r ≡ Err too_short) × (after ≡ before)
   pub answer : words_size ≤ length before → r ≡ loading_of (read sheet)
   pub same_length : length after ≡ length before
   pub form : words_size ≤ length before → (S : Sheet) → read sheet ≡ loaded S → form_of after ≡ some S
@@ -39,12 +37,12 @@ pub record WrittenBack (sheet : Bytes) (words out words' out' : List ℕ) (r : R
   pub within : (n : ℕ) → r ≡ Ok n → n ≤ length out'
 
 -- over the C interface: the refusal, and all 0 where there is none
-unfoldable pub load_verdict_of : Loading → LoadVerdict
-load_verdict_of loading.Loaded = record { number = 0; line = 0; field = 0 }
-load_verdict_of (loading.Refused refusal) = record { number = refusal.number; line = refusal.line; field = refusal.field }
+unfoldable pub load_verdict_of : Result (Unit {0}) Refusal → LoadVerdict
+load_verdict_of (Ok done) = record { number = 0; line = 0; field = 0 }
+load_verdict_of (Err refusal) = record { number = refusal.number; line = refusal.line; field = refusal.field }
 
 pub record LoadExported (sheet : Bytes) (before after : List ℕ) (r : LoadVerdict) : Type 0 where
-  pub short : length before < words_size → (r ≡ load_verdict_of (loading.Refused too_short)) × (after ≡ before)
+  pub short : length before < words_size → (r ≡ load_verdict_of (Err too_short)) × (after ≡ before)
   pub answer : words_size ≤ length before → r ≡ load_verdict_of (loading_of (read sheet))
   pub same_length : length after ≡ length before
   pub form : words_size ≤ length before → (S : Sheet) → read sheet ≡ loaded S → form_of after ≡ some S

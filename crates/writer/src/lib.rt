@@ -29,7 +29,6 @@ use layout::{
 };
 use loaded::{Action, CopyKind, Counts, NO_REGISTER, REGISTER};
 use paper::{Refusal, TOO_SHORT, Unwritten};
-use sheet::Loading;
 
 // The text's room: a sheet's size, and a line more, so that what is too long is seen to be.
 const LINE_ROOM: usize = 1536;
@@ -354,11 +353,7 @@ fn is_read(text: &[u8]) -> bool
     ensures { result ≡ is_read (read text.now) }
 {
     let mut words = [0u16; WORDS_SIZE];
-    let loading = sheet::load(text, &mut words);
-    match loading {
-        Loading::Loaded => true,
-        Loading::Refused(refusal) => false,
-    }
+    sheet::load(text, &mut words).is_ok()
 }
 
 // The text at the start of a buffer that has room for it.
@@ -394,24 +389,21 @@ pub fn write_sheet(words: &[u16], out: &mut [u8]) -> Result<usize, Unwritten>
 
 // Loads a sheet, so that a caller can hold its loaded form. Fewer words than the published size are refused by 1, and nothing changes; a
 // sheet that is refused leaves all words zero, and one that is read leaves its form in them.
-pub fn load_sheet(sheet: &[u8], words: &mut [u16]) -> Loading
+pub fn load_sheet(sheet: &[u8], words: &mut [u16]) -> Result<(), Refusal>
     ensures { SheetLoaded sheet.now words.old words.new result }
 {
     if words.len() < WORDS_SIZE {
-        return Loading::Refused(Refusal {
+        return Err(Refusal {
             number: TOO_SHORT,
             line: 0,
             field: 0,
         });
     }
-    let loading = sheet::load(sheet, words);
-    match loading {
-        Loading::Loaded => Loading::Loaded,
-        Loading::Refused(refusal) => {
-            scratch::clear_words(words);
-            Loading::Refused(refusal)
-        }
+    if let Err(refusal) = sheet::load(sheet, words) {
+        scratch::clear(words);
+        return Err(refusal);
     }
+    Ok(())
 }
 
 // Loads a sheet and writes it back: its own bytes stand at the start of the lent buffer, and all words are zero.
@@ -421,31 +413,33 @@ pub fn write_back(sheet: &[u8], words: &mut [u16], out: &mut [u8]) -> Result<usi
     if words.len() < WORDS_SIZE {
         return Err(Unwritten::NoSheet);
     }
-    let loading = load_sheet(sheet, words);
-    match loading {
-        Loading::Refused(refusal) => Err(Unwritten::NoSheet),
-        Loading::Loaded => {
-            let written = write_sheet(words, out);
-            scratch::clear_words(words);
-            written
-        }
-    }
+    let Ok(()) = load_sheet(sheet, words) else {
+        return Err(Unwritten::NoSheet);
+    };
+    let written = write_sheet(words, out);
+    scratch::clear(words);
+    written
 }
 
-fn load_verdict_of(loading: Loading) -> LoadVerdict
-    ensures { result ≡ load_verdict_of loading }
-{
-    match loading {
-        Loading::Loaded => LoadVerdict {
-            number: 0,
-            line: 0,
-            field: 0,
-        },
-        Loading::Refused(refusal) => LoadVerdict {
-            number: refusal.number,
-            line: refusal.line,
-            field: refusal.field,
-        },
+impl From<Result<(), Refusal>> for LoadVerdict {
+    ghost use Rattle.std.specs.Prelude.{◌≡◌};
+    ghost use Rattle.writer.specs.Load.{load_verdict_of};
+
+    ghost from_gives = { λ loading verdict. verdict ≡ load_verdict_of loading };
+
+    fn from(loading: Result<(), Refusal>) -> LoadVerdict {
+        match loading {
+            Ok(()) => LoadVerdict {
+                number: 0,
+                line: 0,
+                field: 0,
+            },
+            Err(refusal) => LoadVerdict {
+                number: refusal.number,
+                line: refusal.line,
+                field: refusal.field,
+            },
+        }
     }
 }
 
@@ -454,23 +448,27 @@ fn load_verdict_of(loading: Loading) -> LoadVerdict
 pub extern "C" fn itanropen_load(sheet: &[u8], words: &mut [u16]) -> LoadVerdict
     ensures { LoadExported sheet.now words.old words.new result }
 {
-    let loading = load_sheet(sheet, words);
-    load_verdict_of(loading)
+    LoadVerdict::from(load_sheet(sheet, words))
 }
 
-fn verdict_of(written: Result<usize, Unwritten>) -> WriteVerdict
-    ensures { result ≡ verdict_of written }
-{
-    match written {
-        Ok(length) => WriteVerdict { answer: 0, length },
-        Err(Unwritten::NoSheet) => WriteVerdict {
-            answer: 1,
-            length: 0,
-        },
-        Err(Unwritten::NoRoom) => WriteVerdict {
-            answer: 2,
-            length: 0,
-        },
+impl From<Result<usize, Unwritten>> for WriteVerdict {
+    ghost use Rattle.std.specs.Prelude.{◌≡◌};
+    ghost use Rattle.writer.specs.Form.{verdict_of};
+
+    ghost from_gives = { λ written verdict. verdict ≡ verdict_of written };
+
+    fn from(written: Result<usize, Unwritten>) -> WriteVerdict {
+        match written {
+            Ok(length) => WriteVerdict { answer: 0, length },
+            Err(Unwritten::NoSheet) => WriteVerdict {
+                answer: 1,
+                length: 0,
+            },
+            Err(Unwritten::NoRoom) => WriteVerdict {
+                answer: 2,
+                length: 0,
+            },
+        }
     }
 }
 
@@ -479,6 +477,5 @@ fn verdict_of(written: Result<usize, Unwritten>) -> WriteVerdict
 pub extern "C" fn itanropen_write(words: &[u16], out: &mut [u8]) -> WriteVerdict
     ensures { WriteExported words.now out.old out.new result }
 {
-    let written = write_sheet(words, out);
-    verdict_of(written)
+    WriteVerdict::from(write_sheet(words, out))
 }
