@@ -57,7 +57,7 @@ module _ {sheet : Bytes} {before after : List ℕ} {r : Result (Unit {0}) Refusa
   unfolding missing_lines step_lines
   text_missing {m} {missing} M f =
       let N : MissingOf after (Some missing) = subst (MissingOf after) f M in
-      text_loaded ∙ rw N.lines (some_lines block place _ _ _ N.within.3)
+      text_loaded ∙ rw N.lines (some_lines _ _ _ _ _ N.within.3)
 
 -- the words behind the analysis
 
