@@ -1,6 +1,6 @@
 -- The loop over the queue, from the beginning to the whole analysis.
 use mathlib.Core.Path.{◌≡◌, refl, sym, ap, subst, ◌∙◌}
-use mathlib.Core.Bool.{Bool, false}
+use mathlib.Core.Bool.{Bool, true, false}
 use mathlib.Core.List.{List, [], ◌∷◌}
 use Prim.Native.Nat.{ℕ, suc, ◌+◌, ◌≤◌, ◌<◌}
 use native.Mathlib.Numerals.{add-one}
@@ -20,31 +20,31 @@ use Rattle.walks.specs.Passing.{PassedOn}
 use Rattle.walks.proofs.Loop.{Standing, standing_room, standing_step, standing_begin, stopped_early}
 use Rattle.loaded.specs.Loaded.{sheet_of, Loaded}
 use Rattle.tables.specs.Held.{RunKept, held_state}
-use Rattle.runs.specs.Queue.{held, held_from}
 use Rattle.tables.specs.Table.{mark_of, Tabled}
 use Rattle.tables.specs.Allowed.{loaded_closed}
 use Rattle.runs.specs.Stands.{Begins, Running, Continues, Analysed}
 use Rattle.runs.specs.Settled.{Settled, Visited}
-use Rattle.runs.specs.declared.Ring.{Ring}
 use Rattle.runs.proofs.LawsSettled.{none_settled}
-use Rattle.runs.proofs.LawsQueue.{length_held, none_held}
 use Rattle.runs.proofs.LawsVisit.{bound_fits}
 
+-- the queue is not told empty: a block waits
+pub some_left : {b : Bool} (queue : List ℕ) → (b ≡ true → length queue ≡ 0) × (length queue ≡ 0 → b ≡ true) → b ≡ false → 0 < length queue
+some_left {b} [] h e = let t : b ≡ true = h.1 refl in cc
+some_left {b} (x ∷ queue) h e = omega arith
+
 -- the loop over the queue, after so many visits
-pub record Going (rule : Rule) (words₀ queue₀ words queue : List ℕ) (ring : Ring) (settled : List Bool) (visits : ℕ) : Type 0 where
+pub record Going (rule : Rule) (words₀ words queue : List ℕ) (settled : List Bool) (visits : ℕ) : Type 0 where
   pub kept : RunKept words₀ words
-  pub same_length : length queue ≡ length queue₀
-  pub running : Running rule (sheet_of words₀) words queue ring visits (run (flow rule (sheet_of words₀)) visits (begin rule (sheet_of words₀)))
+  pub running : Running rule (sheet_of words₀) words queue visits (run (flow rule (sheet_of words₀)) visits (begin rule (sheet_of words₀)))
   pub passed : PassedOn (flow rule (sheet_of words₀)) (Settled settled) (run (flow rule (sheet_of words₀)) visits (begin rule (sheet_of words₀))).table
   pub no_sooner : (k : ℕ) → k < visits → ¬ ((run (flow rule (sheet_of words₀)) k (begin rule (sheet_of words₀))).queue ≡ [])
 
-pub going_begins : {rule : Rule} {words queue words' queue' : List ℕ} {ring : Ring} → Loaded words → missing_allocations (sheet_of words) ≡ [] → Begins rule words queue words' queue' ring
-    → Going rule words' queue' words' queue' ring (replicate max_blocks false) 0
+pub going_begins : {rule : Rule} {words words' queue' : List ℕ} → Loaded words → missing_allocations (sheet_of words) ≡ [] → Begins rule words words' queue'
+    → Going rule words' words' queue' (replicate max_blocks false) 0
 unfolding run
-going_begins {rule} {words} {words' = words'} {queue' = queue'} {ring = ring} loaded all b = record {
+going_begins {rule} {words} {words' = words'} {queue' = queue'} loaded all b = record {
   kept = kept_same _ _ _;
-  same_length = refl;
-  running = subst (λ (S : Sheet). Running rule S words' queue' ring 0 (begin rule S)) (sym b.stands.tables.sheet.is) (record {
+  running = subst (λ (S : Sheet). Running rule S words' queue' 0 (begin rule S)) (sym b.stands.tables.sheet.is) (record {
     closed = loaded_closed loaded;
     allocated = all;
     standing = standing_begin rule (sheet_of words) (loaded_closed loaded);
@@ -54,58 +54,59 @@ going_begins {rule} {words} {words' = words'} {queue' = queue'} {ring = ring} lo
   no_sooner = λ k h e. absurd (omega arith);
 }
 
-module _ {rule : Rule} {words₀ queue₀ words queue : List ℕ} {ring : Ring} {settled : List Bool} {visits : ℕ} (g : Going rule words₀ queue₀ words queue ring settled visits) where
-  pub going_continues : Continues rule words queue ring
+module _ {rule : Rule} {words₀ words queue : List ℕ} {settled : List Bool} {visits : ℕ} (g : Going rule words₀ words queue settled visits) where
+  pub going_continues : Continues rule words queue
   going_continues = record { sheet = _; visits = visits; at = _; running = g.running }
 
   -- as many visits as the bound are never made while a block waits
-  pub going_left : 0 < ring.count → visits < visit_bound rule (sheet_of words₀)
+  pub going_left : 0 < length queue → visits < visit_bound rule (sheet_of words₀)
   going_left h =
-      let e : length (held queue ring) ≡ _ = ap length g.running.stands.waiting in
-      omega (arith, standing_room rule (sheet_of words₀) _ g.running.standing, e, length_held queue ring.front ring.count)
+      let e : length queue ≡ _ = ap length g.running.stands.waiting in
+      omega (arith, standing_room rule (sheet_of words₀) _ g.running.standing, e)
 
-  pub going_small : 0 < ring.count → visits < queue_size
+  pub going_small : 0 < length queue → visits < queue_size
   going_small h = omega (arith, going_left h, bound_fits rule g.running.stands.tables.sheet)
 
   -- a block waits
-  some_wait : 0 < ring.count → ¬ ((run (flow rule (sheet_of words₀)) visits (begin rule (sheet_of words₀))).queue ≡ [])
+  some_wait : 0 < length queue → ¬ ((run (flow rule (sheet_of words₀)) visits (begin rule (sheet_of words₀))).queue ≡ [])
   some_wait h e =
-      let n : length (held queue ring) ≡ 0 = ap length (g.running.stands.waiting ∙ e) in
-      omega (arith, n, length_held queue ring.front ring.count)
+      let n : length queue ≡ 0 = ap length (g.running.stands.waiting ∙ e) in
+      omega (arith, n)
 
-  pub going_more : {words' queue' : List ℕ} {ring' : Ring} {settled' : List Bool} → 0 < ring.count → Visited rule words queue ring settled words' queue' ring' settled' → Going rule words₀ queue₀ words' queue' ring' settled' (visits + 1)
-  going_more {words'} {queue'} {ring'} h m = record {
+  pub going_more : {words' queue' : List ℕ} {settled' : List Bool} → 0 < length queue → Visited rule words queue settled words' queue' settled' → Going rule words₀ words' queue' settled' (visits + 1)
+  going_more {words'} {queue'} h m = record {
     kept = kept_then _ _ g.kept m.kept (omega arith) (omega arith) (omega arith) (omega arith);
-    same_length = m.same_length ∙ g.same_length;
     running = record {
       closed = g.running.closed;
       allocated = g.running.allocated;
-      standing = rw (add-one, run_suc (flow rule (sheet_of words₀)) visits (begin rule (sheet_of words₀))) (waits (held queue ring) (length_held queue ring.front ring.count) g.running.stands.waiting);
+      standing = rw (add-one, run_suc (flow rule (sheet_of words₀)) visits (begin rule (sheet_of words₀))) (waits queue h g.running.stands.waiting);
       stands = rw (add-one, run_suc (flow rule (sheet_of words₀)) visits (begin rule (sheet_of words₀))) (m.stands _ _ g.running.stands g.passed);
     };
     passed = rw (add-one, run_suc (flow rule (sheet_of words₀)) visits (begin rule (sheet_of words₀))) (m.passed _ _ g.running.stands g.passed);
     no_sooner = λ k l. by_order k visits (g.no_sooner k) (λ n. let same : visits ≡ k = omega arith in rw same at (some_wait h));
   }
     where
-      waits : (l : List ℕ) → length l ≡ ring.count → l ≡ (run (flow rule (sheet_of words₀)) visits (begin rule (sheet_of words₀))).queue
+      waits : (l : List ℕ) → 0 < length l → l ≡ (run (flow rule (sheet_of words₀)) visits (begin rule (sheet_of words₀))).queue
           → Standing rule (sheet_of words₀) g.running.closed (suc visits) (step (flow rule (sheet_of words₀)) (run (flow rule (sheet_of words₀)) visits (begin rule (sheet_of words₀))))
       waits [] n e = absurd (omega arith)
       waits (b ∷ l) n e = standing_step rule _ _ g.running.standing b l (sym e)
 
   -- nothing waits: the analysis is done
-  module _ (h : ring.count ≤ 0) where
+  module _ (h : length queue ≡ 0) where
     none_wait : (run (flow rule (sheet_of words₀)) visits (begin rule (sheet_of words₀))).queue ≡ []
-    none_wait =
-        let none : ring.count ≡ 0 = omega arith in
-        sym g.running.stands.waiting ∙ ap (held_from queue ring.front) none ∙ none_held queue ring.front
+    none_wait = sym g.running.stands.waiting ∙ empty queue h
+      where
+        empty : (l : List ℕ) → length l ≡ 0 → l ≡ []
+        empty [] e = refl
+        empty (b ∷ l) e = absurd (omega arith)
 
-    pub going_ends : Analysed rule words₀ queue₀ words queue
+    pub going_ends : {bytes bytes' : List ℕ} → length bytes' ≡ length bytes → Analysed rule words₀ bytes words bytes'
     unfolding checked_from
-    going_ends = record {
+    going_ends same = record {
       kept = g.kept;
       states = λ b l. t.states b (rw (blocks_there) l) ∙ ap (λ (r : Run State). entered rule (sheet_of words₀) (r.table b)) done;
       marks = λ b l. t.marks b (rw (blocks_there) l) ∙ ap (λ (r : Run State). mark_of (r.table b)) done;
-      same_length = g.same_length;
+      same_length = same;
     }
       where
         t : Tabled rule (sheet_of words₀) (sheet_of words₀).blocks words (run (flow rule (sheet_of words₀)) visits (begin rule (sheet_of words₀))).table
@@ -122,7 +123,7 @@ module _ {rule : Rule} {words₀ queue₀ words queue : List ℕ} {ring : Ring} 
     going_ended = (record { ended = none_wait; no_sooner = g.no_sooner }, omega (arith, standing_room rule (sheet_of words₀) _ g.running.standing))
 
 -- seen from before the beginning
-pub analysed_from : {rule : Rule} {words queue words₀ queue₀ words' queue' : List ℕ} {ring : Ring} → Begins rule words queue words₀ queue₀ ring → Analysed rule words₀ queue₀ words' queue' → Analysed rule words queue words' queue'
+pub analysed_from : {rule : Rule} {words words₀ queue₀ words' bytes bytes' : List ℕ} → Begins rule words words₀ queue₀ → Analysed rule words₀ bytes words' bytes' → Analysed rule words bytes words' bytes'
 analysed_from {rule} {words} {words' = words'} b a =
     let e = b.stands.tables.sheet.is in
     let n = b.kept.below blocks_word (omega arith) in
@@ -130,9 +131,9 @@ analysed_from {rule} {words} {words' = words'} b a =
       kept = kept_then _ _ b.kept a.kept (omega arith) (omega arith) (omega arith) (omega arith);
       states = λ k h. subst (λ (S : Sheet). held_state S words' k ≡ checked_from rule S k) e (a.states k (omega arith));
       marks = λ k h. rw (← e) (a.marks k (omega arith));
-      same_length = a.same_length ∙ b.same_length;
+      same_length = a.same_length;
     }
 
-pub ended_from : {rule : Rule} {words queue words₀ queue₀ : List ℕ} {ring : Ring} {visits : ℕ} → Begins rule words queue words₀ queue₀ ring
+pub ended_from : {rule : Rule} {words words₀ queue₀ : List ℕ} {visits : ℕ} → Begins rule words words₀ queue₀
     → EndsAfter rule (sheet_of words₀) visits × (visits ≤ visit_bound rule (sheet_of words₀)) → EndsAfter rule (sheet_of words) visits × (visits ≤ visit_bound rule (sheet_of words))
 ended_from {rule} {visits = visits} b e = subst (λ (S : Sheet). EndsAfter rule S visits × (visits ≤ visit_bound rule S)) b.stands.tables.sheet.is e

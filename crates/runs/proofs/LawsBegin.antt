@@ -1,5 +1,5 @@
 -- The run as it begins: the table, then the entry with its state and waiting.
-use mathlib.Core.Path.{◌≡◌, sym, ap, ◌∙◌}
+use mathlib.Core.Path.{◌≡◌, sym, ap}
 use mathlib.Core.List.{List, [], ◌∷◌, ◌++◌}
 use Prim.Native.Nat.{ℕ}
 use native.Mathlib.Omega.{arith}
@@ -13,31 +13,26 @@ use Rattle.cells.specs.States.{row_counts, state_of, RowsFit}
 use Rattle.cells.specs.declared.RowCounts.{RowCounts}
 use Rattle.loaded.specs.Loaded.{sheet_of, counts_in}
 use Rattle.tables.specs.Held.{RunKept}
-use Rattle.runs.specs.Queue.{Appended}
 use Rattle.tables.specs.Table.{Ready, Tables, Entered}
 use Rattle.runs.specs.Stands.{Begins}
-use Rattle.runs.specs.declared.Ring.{Ring}
-use Rattle.runs.proofs.LawsQueue.{none_held}
 use Rattle.tables.specs.Laws.{sheet_here, rows_fit}
 
 pub regs_are : (words : List ℕ) (k : RowCounts) → row_counts k ≡ counts_in words → k.regs ≡ get_or words regs_word 0
 regs_are words k e = ap (λ (counts : List ℕ). get_or counts 0 0) e
 
 -- the entry has its state and waits
-pub begun : {rule : Rule} {words₀ words words' queue queue' : List ℕ} {ring : Ring} {s : List (List ℕ)} {regs entry : ℕ} → Ready words₀
+pub begun : {rule : Rule} {words₀ words words' queue queue' : List ℕ} {s : List (List ℕ)} {regs entry : ℕ} → Ready words₀
     → regs ≡ get_or words₀ regs_word 0 → entry ≡ get_or words₀ entry_word 0 → RunKept words₀ words
     → Tables rule (sheet_of words₀) words (before rule (sheet_of words₀))
     → Entered entry s words words'
     → ((counts : List ℕ) → RowsFit counts → get_or counts 0 0 ≡ regs → state_of counts s ≡ entry_rows rule counts)
-    → Appended queue (record { front = 0; count = 0 }) entry queue' ring
-    → Begins rule words₀ queue words' queue' ring
+    → queue ≡ [] → queue' ≡ queue ++ (entry ∷ [])
+    → Begins rule words₀ words' queue'
 unfolding begin sheet_of entry_state counts_of
-begun {rule} {words₀} {queue = queue} ready r e kept tables entered first app = record {
+begun {rule} {words₀} ready r e kept tables entered first none app = record {
   kept = kept_then _ _ kept entered.kept (omega arith) (omega arith) (omega arith) (omega arith);
-  same_length = app.same_length;
   stands = record {
     tables = rw (first (counts_of (sheet_of words₀)) (rows_fit (sheet_here ready)) (sym r), e) at (entered.tables rule (sheet_of words₀) _ tables);
-    sound = app.sound;
-    waiting = rw e at app.holds ∙ ap (λ (l : List ℕ). l ++ (get_or words₀ entry_word 0 ∷ [])) (none_held queue 0);
+    waiting = rw (none, e) at app;
   };
 }

@@ -10,10 +10,9 @@ use Rattle.paper.specs.Steps.{State, counts_of}
 use Rattle.paper.specs.Runs.{Run, store, push_at, push, meet_states, state_same, flow}
 use Rattle.paper.specs.declared.Rule.{Rule}
 use Rattle.cells.specs.States.{state_of}
-use Rattle.runs.specs.Queue.{Appended, Waits}
+use Rattle.runs.specs.Queue.{waits}
 use Rattle.tables.specs.Table.{joined, arrives, Came}
 use Rattle.runs.specs.Stands.{Moved}
-use Rattle.runs.specs.declared.Ring.{Ring}
 
 -- a push, by whether the state is new
 push_is : (rule : Rule) (S : Sheet) (b : ℕ) (x : State) (r : Run State)
@@ -29,35 +28,31 @@ push_is rule S b x r = at (r.table b)
     at none = refl
     at (some a) = met a (state_same (meet_states rule a x) a)
 
-module _ {rule : Rule} {b : ℕ} {s : List (List ℕ)} {words words' queue : List ℕ} {ring : Ring} where
+module _ {rule : Rule} {b : ℕ} {s : List (List ℕ)} {words words' queue : List ℕ} where
   -- the state is new, and the block waits
-  moved_new : {queue' : List ℕ} {ring' : Ring} → Came rule b s words words' true → Appended queue ring b queue' ring'
-      → Moved rule words queue ring words' queue' ring' (λ S. push (flow rule S) b (state_of (counts_of S) s))
+  moved_new : {queue' : List ℕ} → Came rule b s words words' true → queue' ≡ queue ++ (b ∷ [])
+      → Moved rule words queue words' queue' (λ S. push (flow rule S) b (state_of (counts_of S) s))
   unfolding store
   moved_new came app = record {
     kept = came.kept;
-    same_length = app.same_length;
     stands = λ S r h. rw (push_is rule S b (state_of (counts_of S) s) r, ← came.is_new S r.table h.tables) (record {
       tables = came.tables S r.table h.tables;
-      sound = app.sound;
-      waiting = app.holds ∙ ap (λ (l : List ℕ). l ++ (b ∷ [])) h.waiting;
+      waiting = app ∙ ap (λ (l : List ℕ). l ++ (b ∷ [])) h.waiting;
     });
   }
 
   -- the state is not
-  moved_known : Came rule b s words words' false → Moved rule words queue ring words' queue ring (λ S. push (flow rule S) b (state_of (counts_of S) s))
+  moved_known : Came rule b s words words' false → Moved rule words queue words' queue (λ S. push (flow rule S) b (state_of (counts_of S) s))
   moved_known came = record {
     kept = came.kept;
-    same_length = refl;
     stands = λ S r h. rw (push_is rule S b (state_of (counts_of S) s) r, ← came.is_new S r.table h.tables) (record {
       tables = came.tables S r.table h.tables;
-      sound = h.sound;
       waiting = h.waiting;
     });
   }
 
   -- a state came, and its block waits where it is new
-  pub pushed : {queue' : List ℕ} {ring' : Ring} (new : Bool) → Came rule b s words words' new → Waits new b queue ring queue' ring'
-      → Moved rule words queue ring words' queue' ring' (λ S. push (flow rule S) b (state_of (counts_of S) s))
+  pub pushed : {queue' : List ℕ} (new : Bool) → Came rule b s words words' new → queue' ≡ waits new b queue
+      → Moved rule words queue words' queue' (λ S. push (flow rule S) b (state_of (counts_of S) s))
   pushed true came app = moved_new came app
-  pushed false came same = rw (same.0, same.1) (moved_known came)
+  pushed false came same = rw same (moved_known came)

@@ -5,12 +5,11 @@ use Prim.Native.Nat.{ℕ, zero, suc, ◌+◌, ◌-◌, ◌≤◌, ◌<◌}
 use native.Mathlib.Numerals.{add-one}
 use native.Mathlib.Omega.{arith}
 use borrow.Author.Tests.{lt-ltb, le-ltb}
-use lib.ListN.{length, get_or, set, length-set, length-append}
+use lib.ListN.{length, get_or, set, length-append}
 use lib.Seq.{get_or-set_same, get_or-set_other}
 use Rattle.lists.specs.Split.{by_order}
 use Rattle.paper.specs.Limits.{queue_size}
-use Rattle.runs.specs.Queue.{place, held_from, Sound, Appended, Taken}
-use Rattle.runs.specs.declared.Ring.{Ring}
+use Rattle.runs.specs.Queue.{place, held_from, Sound}
 
 pub near : (h n : ℕ) → h + n < queue_size → place h n ≡ h + n
 unfolding place
@@ -24,7 +23,7 @@ round h n l = rw (le-ltb _ _ l)
 by_place : {Q : Type 0} (h n : ℕ) → (h + n < queue_size → place h n ≡ h + n → Q) → (queue_size ≤ h + n → place h n ≡ h + n - queue_size → Q) → Q
 by_place h n f g = by_order (h + n) queue_size (λ l. f l (near h n l)) (λ l. g l (round h n l))
 
-place_inside : (h n : ℕ) → h < queue_size → n ≤ queue_size → place h n < queue_size
+pub place_inside : (h n : ℕ) → h < queue_size → n ≤ queue_size → place h n < queue_size
 place_inside h n hh hn = by_place h n (λ l e. omega arith) (λ l e. omega arith)
 
 place_apart : (h k n : ℕ) → h < queue_size → k < n → n < queue_size → place h k ≡ place h n → ⊥
@@ -69,19 +68,12 @@ pub none_held : (q : List ℕ) (h : ℕ) → held_from q h 0 ≡ []
 unfolding held_from
 none_held q h = refl
 
-pub append_is : (q : List ℕ) (r : Ring) (b t : ℕ) → Sound q r → r.count < queue_size → t ≡ place r.front r.count
-    → Appended q r b (set q t b) (record { front = r.front; count = r.count + 1 })
-append_is q r b t s h e = record {
-  sound = record { size = rw length-set s.size; inside = s.inside; fits = omega arith };
-  same_length = length-set q t b;
-  holds = rw e (held_more q r.front r.count b s.size s.inside h);
-}
+-- one more at the end
+pub held_pushed : (q : List ℕ) (h m b t : ℕ) → Sound q h m → m < queue_size → t ≡ place h m → held_from (set q t b) h (m + 1) ≡ held_from q h m ++ (b ∷ [])
+held_pushed q h m b t s l e = rw e (held_more q h m b s.0 s.1 l)
 
-pub take_is : (q : List ℕ) (r : Ring) (h : ℕ) → Sound q r → 0 < r.count → h ≡ place r.front 1
-    → Taken q r (record { front = h; count = r.count - 1 })
-take_is q r h s p e = record {
-  sound = record { size = s.size; inside = rw e (place_inside r.front 1 s.inside (omega arith)); fits = omega (arith, s.fits) };
-  holds =
-      let n : r.count ≡ suc (r.count - 1) = omega arith in
-      ap (held_from q r.front) n ∙ rw e (held_first q r.front (r.count - 1) s.inside (omega (arith, s.fits)));
-}
+-- the one that waits longest is gone
+pub held_taken : (q : List ℕ) (h m t : ℕ) → Sound q h m → 0 < m → t ≡ place h 1 → held_from q h m ≡ get_or q h 0 ∷ held_from q t (m - 1)
+held_taken q h m t s p e =
+    let n : m ≡ suc (m - 1) = omega arith in
+    ap (held_from q h) n ∙ rw e (held_first q h (m - 1) s.1 (omega arith))

@@ -18,7 +18,6 @@ use Rattle.walks.specs.Passing.{PassedOn, Passing, below_left, below_right, stor
 use Rattle.walks.specs.Effects.{states_idem, meet_laws}
 use Rattle.tables.specs.Table.{arrives, Came}
 use Rattle.runs.specs.Settled.{Settled, unsettled, Unsettled}
-use Rattle.runs.specs.declared.Ring.{Ring}
 
 not_both : {x : Bool} → x ≡ false → x ≡ true → ⊥
 not_both p q = cc
@@ -76,6 +75,6 @@ module _ (rule : Rule) (S : Sheet) where
   passing_first b a settled table e g = visit_passing F table b a e (F.succs b) (λ s i. i) (λ c n q. still_settled settled b true c n q) g
 
 -- a state that came unsettles its block where it is new
-pub unsettled_came : {rule : Rule} {b : ℕ} {s : List (List ℕ)} {words words' queue : List ℕ} {settled settled' : List Bool} {ring : Ring} {new : Bool} → Came rule b s words words' new
-    → settled' ≡ unsettled new b settled → Unsettled rule words queue ring b s settled settled'
+pub unsettled_came : {rule : Rule} {b : ℕ} {s : List (List ℕ)} {words words' queue : List ℕ} {settled settled' : List Bool} {new : Bool} → Came rule b s words words' new
+    → settled' ≡ unsettled new b settled → Unsettled rule words queue b s settled settled'
 unsettled_came {b = b} {settled = settled} came e = record { is = λ S r h. e ∙ ap (λ (x : Bool). unsettled x b settled) (came.is_new S r.table h.tables) }

@@ -28,34 +28,30 @@ use Rattle.cells.specs.States.{state_of, Narrow}
 use Rattle.loaded.specs.Loaded.{succ_total, sheet_of, BlockBounds}
 use Rattle.loaded.specs.Blocks.{succs_in_words}
 use Rattle.tables.specs.Held.{held_state}
-use Rattle.runs.specs.Queue.{held, Sound, Taken}
 use Rattle.tables.specs.Table.{Ready, Holds, mark_of, arrives, ResultOf}
 use Rattle.runs.specs.Stands.{Stands, Continues, Moved}
-use Rattle.runs.specs.declared.Ring.{Ring}
 use Rattle.runs.specs.Settled.{Settled, unsettled, Unsettled, Visited}
-use Rattle.runs.proofs.LawsQueue.{length_held}
 use Rattle.runs.proofs.LawsSettled.{push_passing, passing_first}
 use Rattle.tables.specs.Laws.{marked, blocks_are, few_blocks, rows_fit, ready_stays}
 
 -- inside a visit, whose block has its successors from `from` on: the first i have been served
-pub record Serving (rule : Rule) (words₀ queue₀ : List ℕ) (ring₀ : Ring) (s : List (List ℕ)) (from total : ℕ) (words queue : List ℕ) (ring : Ring) (i : ℕ) : Type 0 where
+pub record Serving (rule : Rule) (words₀ queue₀ : List ℕ) (s : List (List ℕ)) (from total : ℕ) (words queue : List ℕ) (i : ℕ) : Type 0 where
   pub past : i ≤ total
-  pub moved : Moved rule words₀ queue₀ ring₀ words queue ring (λ S. spread (flow rule S) (region from i words₀) (state_of (counts_of S) s))
+  pub moved : Moved rule words₀ queue₀ words queue (λ S. spread (flow rule S) (region from i words₀) (state_of (counts_of S) s))
 
-pub serving_none : {rule : Rule} {words queue : List ℕ} {ring : Ring} {s : List (List ℕ)} {from total : ℕ} → Serving rule words queue ring s from total words queue ring 0
+pub serving_none : {rule : Rule} {words queue : List ℕ} {s : List (List ℕ)} {from total : ℕ} → Serving rule words queue s from total words queue 0
 unfolding spread region
-serving_none = record { past = omega arith; moved = record { kept = kept_same _ _ _; same_length = refl; stands = λ S r h. h } }
+serving_none = record { past = omega arith; moved = record { kept = kept_same _ _ _; stands = λ S r h. h } }
 
-pub serving_more : {rule : Rule} {words₀ queue₀ : List ℕ} {ring₀ : Ring} {s : List (List ℕ)} {from total : ℕ} {words queue : List ℕ} {ring : Ring} {i next : ℕ} {words' queue' : List ℕ} {ring' : Ring}
-    → Serving rule words₀ queue₀ ring₀ s from total words queue ring i → i < total → from + total ≤ state_base → from + total ≤ length words₀
+pub serving_more : {rule : Rule} {words₀ queue₀ : List ℕ} {s : List (List ℕ)} {from total : ℕ} {words queue : List ℕ} {i next : ℕ} {words' queue' : List ℕ}
+    → Serving rule words₀ queue₀ s from total words queue i → i < total → from + total ≤ state_base → from + total ≤ length words₀
     → next ≡ get_or words (from + i) 0
-    → Moved rule words queue ring words' queue' ring' (λ S. push (flow rule S) next (state_of (counts_of S) s))
-    → Serving rule words₀ queue₀ ring₀ s from total words' queue' ring' (i + 1)
+    → Moved rule words queue words' queue' (λ S. push (flow rule S) next (state_of (counts_of S) s))
+    → Serving rule words₀ queue₀ s from total words' queue' (i + 1)
 serving_more {rule} {words₀} {s = s} {from = from} {i = i} g l low fits e m = record {
   past = omega arith;
   moved = record {
     kept = kept_then _ _ g.moved.kept m.kept (omega arith) (omega arith) (omega arith) (omega arith);
-    same_length = m.same_length ∙ g.moved.same_length;
     stands = λ S r h.
         rw (region_more from i words₀ (omega arith), spread_last (flow rule S) (region from i words₀) (get_or words₀ (from + i) 0) (state_of (counts_of S) s) r, ← g.moved.kept.below (from + i) (omega arith), ← e)
         (m.stands S _ (g.moved.stands S r h));
@@ -63,13 +59,13 @@ serving_more {rule} {words₀} {s = s} {from = from} {i = i} g l low fits e m = 
 }
 
 -- and the settled blocks have passed their states on, or have the result to pass on to successors that are not served yet
-pub record Settling (rule : Rule) (words₀ queue₀ : List ℕ) (ring₀ : Ring) (s : List (List ℕ)) (from total : ℕ) (settled₀ settled : List Bool) (i : ℕ) : Type 0 where
-  pub passing : (S : Sheet) (r : Run State) → Stands rule S words₀ queue₀ ring₀ r
+pub record Settling (rule : Rule) (words₀ queue₀ : List ℕ) (s : List (List ℕ)) (from total : ℕ) (settled₀ settled : List Bool) (i : ℕ) : Type 0 where
+  pub passing : (S : Sheet) (r : Run State) → Stands rule S words₀ queue₀ r
       → Passing (flow rule S) (Settled settled₀) (state_of (counts_of S) s) (region from total words₀) r.table
       → Passing (flow rule S) (Settled settled) (state_of (counts_of S) s) (region (from + i) (total - i) words₀)
       (spread (flow rule S) (region from i words₀) (state_of (counts_of S) s) r).table
 
-pub settling_none : {rule : Rule} {words queue : List ℕ} {ring : Ring} {s : List (List ℕ)} {from total : ℕ} {settled : List Bool} → Settling rule words queue ring s from total settled settled 0
+pub settling_none : {rule : Rule} {words queue : List ℕ} {s : List (List ℕ)} {from total : ℕ} {settled : List Bool} → Settling rule words queue s from total settled settled 0
 unfolding spread region
 settling_none {from = from} {total = total} = record {
   passing = λ S r h p.
@@ -78,10 +74,10 @@ settling_none {from = from} {total = total} = record {
       rw (a, b) p;
 }
 
-pub settling_more : {rule : Rule} {words₀ queue₀ : List ℕ} {ring₀ : Ring} {s : List (List ℕ)} {from total : ℕ} {settled₀ settled : List Bool} {words queue : List ℕ} {ring : Ring} {i next : ℕ} {settled' : List Bool}
-    → Serving rule words₀ queue₀ ring₀ s from total words queue ring i → Settling rule words₀ queue₀ ring₀ s from total settled₀ settled i → i < total → from + total ≤ state_base → from + total ≤ length words₀
-    → next ≡ get_or words (from + i) 0 → Unsettled rule words queue ring next s settled settled'
-    → Settling rule words₀ queue₀ ring₀ s from total settled₀ settled' (i + 1)
+pub settling_more : {rule : Rule} {words₀ queue₀ : List ℕ} {s : List (List ℕ)} {from total : ℕ} {settled₀ settled : List Bool} {words queue : List ℕ} {i next : ℕ} {settled' : List Bool}
+    → Serving rule words₀ queue₀ s from total words queue i → Settling rule words₀ queue₀ s from total settled₀ settled i → i < total → from + total ≤ state_base → from + total ≤ length words₀
+    → next ≡ get_or words (from + i) 0 → Unsettled rule words queue next s settled settled'
+    → Settling rule words₀ queue₀ s from total settled₀ settled' (i + 1)
 settling_more {rule} {words₀} {s = s} {from = from} {total = total} {settled = settled} {i = i} {settled' = settled'} g m l low fits e u = record {
   passing = λ S r h p.
       let x = state_of (counts_of S) s in
@@ -123,129 +119,122 @@ pub record Visiting (words : List ℕ) (b : ℕ) : Type 0 where
   pub succs : succ_total words b ≤ max_succs
   pub size : all_words ≤ length words
 
--- the block that waits longest
-abbrev first_of : List ℕ → Ring → ℕ
-first_of queue ring = get_or queue ring.front 0
+-- the block that waits longest is taken
+module _ {rule : Rule} {words queue : List ℕ} {rest : List ℕ} {first : ℕ} (c : Continues rule words queue) (taken : queue ≡ first ∷ rest) where
+  first_waits : c.at.queue ≡ first ∷ rest
+  first_waits = sym c.running.stands.waiting ∙ taken
 
-module _ {rule : Rule} {words queue : List ℕ} {ring ring₁ : Ring} (c : Continues rule words queue ring) (taken : Taken queue ring ring₁) where
-  first_waits : c.at.queue ≡ first_of queue ring ∷ held queue ring₁
-  first_waits = sym c.running.stands.waiting ∙ taken.holds
+  first_in : In first c.at.queue
+  first_in = subst (In first) (sym first_waits) (here refl)
 
-  first_in : In (first_of queue ring) c.at.queue
-  first_in = subst (In (first_of queue ring)) (sym first_waits) (here refl)
-
-  first_here : first_of queue ring < c.sheet.blocks
-  first_here = standing_below rule _ _ c.running.standing (first_of queue ring) first_in
+  first_here : first < c.sheet.blocks
+  first_here = standing_below rule _ _ c.running.standing first first_in
 
   -- it is a block, and visited
-  pub first_below : get_or queue ring.front 0 < get_or words blocks_word 0
+  pub first_below : first < get_or words blocks_word 0
   first_below = rw (← blocks_are c.running.stands.tables.sheet) first_here
 
-  first_marked : get_or words (mark_at (first_of queue ring)) 0 ≡ 0 → ⊥
+  first_marked : get_or words (mark_at first) 0 ≡ 0 → ⊥
   unfolding mark_of
   first_marked e =
-      let v = standing_visited rule _ _ c.running.standing (first_of queue ring) first_in in
-      let m : ◌≡◌ {A = ℕ} 0 1 = sym e ∙ c.running.stands.tables.tabled.marks (first_of queue ring) first_here ∙ ap mark_of v.1 in
+      let v = standing_visited rule _ _ c.running.standing first first_in in
+      let m : ◌≡◌ {A = ℕ} 0 1 = sym e ∙ c.running.stands.tables.tabled.marks first first_here ∙ ap mark_of v.1 in
       omega arith
 
   pub still_allocated : missing_allocations (sheet_of words) ≡ []
   still_allocated = ap missing_allocations c.running.stands.tables.sheet.is ∙ c.running.allocated
 
-  module _ (S : Sheet) (r : Run State) (h : Stands rule S words queue ring r) where
-    first_state : r.table (first_of queue ring) ≡ some (held_state S words (first_of queue ring))
+  module _ (S : Sheet) (r : Run State) (h : Stands rule S words queue r) where
+    first_state : r.table first ≡ some (held_state S words first)
     first_state =
-        let l : first_of queue ring < S.blocks = rw (blocks_are h.tables.sheet) first_below in
-        marked rule S (r.table (first_of queue ring)) (λ e. first_marked (h.tables.tabled.marks (first_of queue ring) l ∙ e)) ∙ ap some (sym (h.tables.tabled.states (first_of queue ring) l))
+        let l : first < S.blocks = rw (blocks_are h.tables.sheet) first_below in
+        marked rule S (r.table first) (λ e. first_marked (h.tables.tabled.marks first l ∙ e)) ∙ ap some (sym (h.tables.tabled.states first l))
 
-    rest_stands : Stands rule S words queue ring₁ (record { table = r.table; queue = held queue ring₁ })
-    rest_stands = record { tables = h.tables; sound = taken.sound; waiting = refl }
+    rest_stands : Stands rule S words rest (record { table = r.table; queue = rest })
+    rest_stands = record { tables = h.tables; waiting = refl }
 
-  first_opened : first_of queue ring < get_or words opened_word 0
+  first_opened : first < get_or words opened_word 0
   first_opened = rw c.running.stands.tables.sheet.ready.loaded.whole first_below
 
   -- its successors, as its words have them
-  first_succs : (S : Sheet) → Holds S words → succs_of S (first_of queue ring) ≡ region (succ_base (first_of queue ring)) (succ_total words (first_of queue ring)) words
-  first_succs S h = ap (λ (s : Sheet). succs_of s (first_of queue ring)) (sym h.is) ∙ succs_in_words words (first_of queue ring) first_opened
+  first_succs : (S : Sheet) → Holds S words → succs_of S first ≡ region (succ_base first) (succ_total words first) words
+  first_succs S h = ap (λ (s : Sheet). succs_of s first) (sym h.is) ∙ succs_in_words words first first_opened
 
-  first_bounds : BlockBounds words (first_of queue ring)
-  first_bounds = c.running.stands.tables.sheet.ready.loaded.bounds.each_block (first_of queue ring) first_opened
+  first_bounds : BlockBounds words first
+  first_bounds = c.running.stands.tables.sheet.ready.loaded.bounds.each_block first first_opened
 
-  pub visiting : Visiting words (get_or queue ring.front 0)
+  pub visiting : Visiting words first
   visiting =
       let L = c.running.stands.tables.sheet.ready.loaded.bounds in
       record { small = omega (arith, first_below, L.blocks); succs = first_bounds.succs; size = L.size }
 
   -- it is settled: the visit changes nothing but the queue
-  pub visited_settled : (settled : List Bool) → Settled settled (get_or queue ring.front 0) → Visited rule words queue ring settled words queue ring₁ settled
+  pub visited_settled : (settled : List Bool) → Settled settled first → Visited rule words queue settled words rest settled
   visited_settled settled q = record {
     kept = kept_same _ _ _;
-    same_length = refl;
     stands = λ S r h k. rw (still S r h k) (rest_stands S r h);
     passed = λ S r h k. rw (still S r h k) k;
   }
     where
-      still : (S : Sheet) (r : Run State) → Stands rule S words queue ring r → PassedOn (flow rule S) (Settled settled) r.table
-          → step (flow rule S) r ≡ record { table = r.table; queue = held queue ring₁ }
+      still : (S : Sheet) (r : Run State) → Stands rule S words queue r → PassedOn (flow rule S) (Settled settled) r.table
+          → step (flow rule S) r ≡ record { table = r.table; queue = rest }
       still S r h k =
-          step_visit (flow rule S) r (first_of queue ring) (held queue ring₁) _ (sym h.waiting ∙ taken.holds) (first_state S r h)
-          ∙ spread_covered (flow rule S) _ _ _ (λ s i. k.closed (first_of queue ring) _ (first_state S r h) q s i)
+          step_visit (flow rule S) r first rest _ (sym h.waiting ∙ taken) (first_state S r h)
+          ∙ spread_covered (flow rule S) _ _ _ (λ s i. k.closed first _ (first_state S r h) q s i)
 
-  module _ {s : List (List ℕ)} {words' queue' : List ℕ} {ring' : Ring} {i : ℕ} (made : ResultOf rule (first_of queue ring) words s)
-      (g : Serving rule words queue ring₁ s (succ_base (first_of queue ring)) (succ_total words (first_of queue ring)) words' queue' ring' i) where
-    serving_stands : Stands rule c.sheet words' queue' ring' (spread (flow rule c.sheet) (region (succ_base (first_of queue ring)) i words) (state_of (counts_of c.sheet) s) (record { table = c.at.table; queue = held queue ring₁ }))
+  module _ {s : List (List ℕ)} {words' queue' : List ℕ} {i : ℕ} (made : ResultOf rule first words s)
+      (g : Serving rule words rest s (succ_base first) (succ_total words first) words' queue' i) where
+    serving_stands : Stands rule c.sheet words' queue' (spread (flow rule c.sheet) (region (succ_base first) i words) (state_of (counts_of c.sheet) s) (record { table = c.at.table; queue = rest }))
     serving_stands = g.moved.stands c.sheet _ (rest_stands c.sheet c.at c.running.stands)
 
     -- there is room for one more that waits
-    pub serving_room : ring'.count < queue_size
+    pub serving_room : length queue' < queue_size
     serving_room =
         let S = c.sheet in
-        let b = first_of queue ring in
+        let b = first in
         let succs : succs_of S b ≡ region (succ_base b) i words ++ region (succ_base b + i) (succ_total words b - i) words =
         first_succs S c.running.stands.tables.sheet ∙ ap (λ (n : ℕ). region (succ_base b) n words) (omega (arith, g.past)) ∙ region_joined (succ_base b) i words (succ_total words b - i) in
-        let inside = standing_inside rule S _ c.running.standing b (held queue ring₁) _ (region (succ_base b) i words) _ first_waits (first_state S c.at c.running.stands) succs in
-        let e : length (held queue' ring') ≡ _ = ap length serving_stands.waiting in
-        omega (arith, bound_fits rule c.running.stands.tables.sheet, length_held queue' ring'.front ring'.count, e, rw (← made.is S c.running.stands.tables.sheet) at (standing_room rule S _ inside))
-
-    pub serving_sound : Sound queue' ring'
-    serving_sound = serving_stands.sound
+        let inside = standing_inside rule S _ c.running.standing b rest _ (region (succ_base b) i words) _ first_waits (first_state S c.at c.running.stands) succs in
+        let e : length queue' ≡ _ = ap length serving_stands.waiting in
+        omega (arith, bound_fits rule c.running.stands.tables.sheet, e, rw (← made.is S c.running.stands.tables.sheet) at (standing_room rule S _ inside))
 
     pub serving_ready : Ready words'
     serving_ready = ready_stays g.moved.kept c.running.stands.tables.sheet.ready
 
     -- the next successor is a block
-    pub serving_block : i < succ_total words (get_or queue ring.front 0) → get_or words' (succ_base (get_or queue ring.front 0) + i) 0 < get_or words' blocks_word 0
+    pub serving_block : i < succ_total words first → get_or words' (succ_base first + i) 0 < get_or words' blocks_word 0
     serving_block l =
-        let low : succ_base (first_of queue ring) + i < state_base = omega (arith, visiting.small, visiting.succs) in
-        rw (g.moved.kept.below (succ_base (first_of queue ring) + i) low, g.moved.kept.below blocks_word (omega arith)) (first_bounds.below i l)
+        let low : succ_base first + i < state_base = omega (arith, visiting.small, visiting.succs) in
+        rw (g.moved.kept.below (succ_base first + i) low, g.moved.kept.below blocks_word (omega arith)) (first_bounds.below i l)
 
     -- all are served: that was the visit
-    pub moved_visit : succ_total words (get_or queue ring.front 0) ≤ i → Moved rule words queue ring words' queue' ring' (λ S. step (flow rule S))
+    pub moved_visit : succ_total words first ≤ i → Moved rule words queue words' queue' (λ S. step (flow rule S))
     unfolding flow
-    moved_visit l = record { kept = g.moved.kept; same_length = g.moved.same_length; stands = stands }
+    moved_visit l = record { kept = g.moved.kept; stands = stands }
       where
-        stands : (S : Sheet) (r : Run State) → Stands rule S words queue ring r → Stands rule S words' queue' ring' (step (flow rule S) r)
+        stands : (S : Sheet) (r : Run State) → Stands rule S words queue r → Stands rule S words' queue' (step (flow rule S) r)
         stands S r h =
-            let all : i ≡ succ_total words (first_of queue ring) = omega (arith, g.past) in
-            rw (step_visit (flow rule S) r (first_of queue ring) (held queue ring₁) _ (sym h.waiting ∙ taken.holds) (first_state S r h), ← made.is S h.tables.sheet, first_succs S h.tables.sheet, ← all)
+            let all : i ≡ succ_total words first = omega (arith, g.past) in
+            rw (step_visit (flow rule S) r first rest _ (sym h.waiting ∙ taken) (first_state S r h), ← made.is S h.tables.sheet, first_succs S h.tables.sheet, ← all)
             (g.moved.stands S _ (rest_stands S r h))
 
-    pub visited_run : {settled settled' : List Bool} → Settling rule words queue ring₁ s (succ_base (first_of queue ring)) (succ_total words (first_of queue ring)) (set settled (first_of queue ring) true) settled' i
-        → succ_total words (get_or queue ring.front 0) ≤ i → Visited rule words queue ring settled words' queue' ring' settled'
+    pub visited_run : {settled settled' : List Bool} → Settling rule words rest s (succ_base first) (succ_total words first) (set settled first true) settled' i
+        → succ_total words first ≤ i → Visited rule words queue settled words' queue' settled'
     unfolding flow
     visited_run {settled} {settled'} m l =
         let v = moved_visit l in
-        record { kept = v.kept; same_length = v.same_length; stands = λ S r h k. v.stands S r h; passed = passed }
+        record { kept = v.kept; stands = λ S r h k. v.stands S r h; passed = passed }
       where
-        passed : (S : Sheet) (r : Run State) → Stands rule S words queue ring r → PassedOn (flow rule S) (Settled settled) r.table
+        passed : (S : Sheet) (r : Run State) → Stands rule S words queue r → PassedOn (flow rule S) (Settled settled) r.table
             → PassedOn (flow rule S) (Settled settled') (step (flow rule S) r).table
         passed S r h k =
-            let b = first_of queue ring in
+            let b = first in
             let x = state_of (counts_of S) s in
-            let rest : Run State = record { table = r.table; queue = held queue ring₁ } in
+            let left : Run State = record { table = r.table; queue = rest } in
             let all : i ≡ succ_total words b = omega (arith, g.past) in
             let none : succ_total words b - i ≡ 0 = omega arith in
             let begun : Passing (flow rule S) (Settled (set settled b true)) x (region (succ_base b) (succ_total words b) words) r.table =
             rw (made.is S h.tables.sheet, ← first_succs S h.tables.sheet) (passing_first rule S b _ settled r.table (first_state S r h) k) in
-            let ended : PassedOn (flow rule S) (Settled settled') (spread (flow rule S) (region (succ_base b) i words) x rest).table =
-            passing_done (flow rule S) _ x (rw (none, region_none) at (m.passing S rest (rest_stands S r h) begun)) in
-            rw (step_visit (flow rule S) r b (held queue ring₁) _ (sym h.waiting ∙ taken.holds) (first_state S r h), ← made.is S h.tables.sheet, first_succs S h.tables.sheet, ← all) ended
+            let ended : PassedOn (flow rule S) (Settled settled') (spread (flow rule S) (region (succ_base b) i words) x left).table =
+            passing_done (flow rule S) _ x (rw (none, region_none) at (m.passing S left (rest_stands S r h) begun)) in
+            rw (step_visit (flow rule S) r b rest _ (sym h.waiting ∙ taken) (first_state S r h), ← made.is S h.tables.sheet, first_succs S h.tables.sheet, ← all) ended

@@ -1,6 +1,6 @@
 -- Blocks that are settled: the state has not changed since the last visit, so what the block makes of it was passed on, and another
 -- visit changes nothing. `settled` says of each block whether it is settled.
-use Rattle.std.specs.Prelude.{◌≡◌, Bool, true, false, cond, List, ℕ, length, get_or, set}
+use Rattle.std.specs.Prelude.{◌≡◌, Bool, true, false, cond, List, ℕ, get_or, set}
 use Rattle.paper.specs.Sheet.{Sheet}
 use Rattle.paper.specs.Steps.{State, counts_of}
 use Rattle.paper.specs.Runs.{Run, step, flow}
@@ -10,7 +10,6 @@ use Rattle.cells.specs.States.{state_of}
 use Rattle.tables.specs.Held.{RunKept}
 use Rattle.tables.specs.Table.{arrives}
 use Rattle.runs.specs.Stands.{Stands}
-use Rattle.runs.specs.declared.Ring.{Ring}
 
 abbrev pub Settled : List Bool → ℕ → Type 0
 Settled settled b = get_or settled b false ≡ true
@@ -20,14 +19,13 @@ unfoldable pub unsettled : Bool → ℕ → List Bool → List Bool
 unsettled new b settled = cond new (set settled b false) settled
 
 -- the state s came to block b
-pub record Unsettled (rule : Rule) (words queue : List ℕ) (ring : Ring) (b : ℕ) (s : List (List ℕ)) (settled settled' : List Bool) : Type 0 where
-  pub is : (S : Sheet) (r : Run State) → Stands rule S words queue ring r → settled' ≡ unsettled (arrives rule (r.table b) (state_of (counts_of S) s)) b settled
+pub record Unsettled (rule : Rule) (words queue : List ℕ) (b : ℕ) (s : List (List ℕ)) (settled settled' : List Bool) : Type 0 where
+  pub is : (S : Sheet) (r : Run State) → Stands rule S words queue r → settled' ≡ unsettled (arrives rule (r.table b) (state_of (counts_of S) s)) b settled
 
 -- one visit of a run whose settled blocks have passed their states on
-pub record Visited (rule : Rule) (words queue : List ℕ) (ring : Ring) (settled : List Bool) (words' queue' : List ℕ) (ring' : Ring) (settled' : List Bool) : Type 0 where
+pub record Visited (rule : Rule) (words queue : List ℕ) (settled : List Bool) (words' queue' : List ℕ) (settled' : List Bool) : Type 0 where
   pub kept : RunKept words words'
-  pub same_length : length queue' ≡ length queue
-  pub stands : (S : Sheet) (r : Run State) → Stands rule S words queue ring r → PassedOn (flow rule S) (Settled settled) r.table
-      → Stands rule S words' queue' ring' (step (flow rule S) r)
-  pub passed : (S : Sheet) (r : Run State) → Stands rule S words queue ring r → PassedOn (flow rule S) (Settled settled) r.table
+  pub stands : (S : Sheet) (r : Run State) → Stands rule S words queue r → PassedOn (flow rule S) (Settled settled) r.table
+      → Stands rule S words' queue' (step (flow rule S) r)
+  pub passed : (S : Sheet) (r : Run State) → Stands rule S words queue r → PassedOn (flow rule S) (Settled settled) r.table
       → PassedOn (flow rule S) (Settled settled') (step (flow rule S) r).table

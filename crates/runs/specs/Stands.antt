@@ -1,4 +1,4 @@
--- The run that stands in words and queue, and what the code does to it: it begins, a state is pushed, a block is visited, and in
+-- The run that stands in words and in the blocks that wait, and what the code does to it: it begins, a state is pushed, a block is visited, and in
 -- the end the analysis of the paper is there.
 use Rattle.std.specs.Prelude.{◌≡◌, List, [], ℕ, ◌<◌, length, get_or}
 use Rattle.std.proofs.Common.{arith}
@@ -13,42 +13,37 @@ use Rattle.walks.proofs.Loop.{Standing}
 use Rattle.cells.specs.States.{stored_state}
 use Rattle.loaded.specs.Loaded.{sheet_of, Loaded, counts_in}
 use Rattle.tables.specs.Held.{RunKept, held_state}
-use Rattle.runs.specs.Queue.{held, Sound}
 use Rattle.tables.specs.Table.{mark_of, Tables}
 use Rattle.loaded.specs.Sheets.{sheet_stays, loaded_stays}
-use Rattle.runs.specs.declared.Ring.{Ring}
 
 -- the sheet S and the run r stand in words and queue
-pub record Stands (rule : Rule) (S : Sheet) (words queue : List ℕ) (ring : Ring) (r : Run State) : Type 0 where
+pub record Stands (rule : Rule) (S : Sheet) (words queue : List ℕ) (r : Run State) : Type 0 where
   pub tables : Tables rule S words r.table
-  pub sound : Sound queue ring
-  pub waiting : held queue ring ≡ r.queue
+  pub waiting : queue ≡ r.queue
 
 -- words and queue hold the run of their sheet as it begins
-pub record Begins (rule : Rule) (words queue words' queue' : List ℕ) (ring : Ring) : Type 0 where
+pub record Begins (rule : Rule) (words words' queue' : List ℕ) : Type 0 where
   pub kept : RunKept words words'
-  pub same_length : length queue' ≡ length queue
-  pub stands : Stands rule (sheet_of words) words' queue' ring (begin rule (sheet_of words))
+  pub stands : Stands rule (sheet_of words) words' queue' (begin rule (sheet_of words))
 
 -- a run on its way, after so many visits: it keeps the paper's bounds, and what waits has a state
-pub record Running (rule : Rule) (S : Sheet) (words queue : List ℕ) (ring : Ring) (visits : ℕ) (r : Run State) : Type 0 where
+pub record Running (rule : Rule) (S : Sheet) (words queue : List ℕ) (visits : ℕ) (r : Run State) : Type 0 where
   pub closed : Closed S
   pub allocated : missing_allocations S ≡ []
   pub standing : Standing rule S closed visits r
-  pub stands : Stands rule S words queue ring r
+  pub stands : Stands rule S words queue r
 
 -- some run is on its way
-pub record Continues (rule : Rule) (words queue : List ℕ) (ring : Ring) : Type 0 where
+pub record Continues (rule : Rule) (words queue : List ℕ) : Type 0 where
   pub sheet : Sheet
   pub visits : ℕ
   pub at : Run State
-  pub running : Running rule sheet words queue ring visits at
+  pub running : Running rule sheet words queue visits at
 
 -- words and queue after a change that takes each run that stands in them to f of it
-pub record Moved (rule : Rule) (words queue : List ℕ) (ring : Ring) (words' queue' : List ℕ) (ring' : Ring) (f : Sheet → Run State → Run State) : Type 0 where
+pub record Moved (rule : Rule) (words queue : List ℕ) (words' queue' : List ℕ) (f : Sheet → Run State → Run State) : Type 0 where
   pub kept : RunKept words words'
-  pub same_length : length queue' ≡ length queue
-  pub stands : (S : Sheet) (r : Run State) → Stands rule S words queue ring r → Stands rule S words' queue' ring' (f S r)
+  pub stands : (S : Sheet) (r : Run State) → Stands rule S words queue r → Stands rule S words' queue' (f S r)
 
 -- the words after the analysis
 pub record Analysed (rule : Rule) (words queue words' queue' : List ℕ) : Type 0 where

@@ -2,26 +2,39 @@
 
 #![tactic(auto)]
 
-ghost use Rattle.std.specs.Prelude.{◌≡◌, List, [], ℕ, ◌≤◌, ◌<◌, length};
+ghost use Rattle.std.specs.Prelude.{◌≡◌, [], ◌∷◌, ◌++◌, ◌≤◌, ◌<◌, ◌↔◌, length, IsTrue};
 ghost use Rattle.paper.specs.Report.{missing_allocations};
 ghost use Rattle.paper.specs.Limits.{max_blocks, queue_size};
 ghost use Rattle.paper.specs.Runs as paper_runs;
 ghost use Rattle.layout.specs.Layout.{run_words};
 ghost use Rattle.cells.specs.Meeting.{meet_table};
 ghost use Rattle.loaded.specs.Loaded.{sheet_of, Loaded};
-ghost use Rattle.runs.specs.Queue.{place, Sound, Appended, Waits, Taken};
+ghost use Rattle.runs.specs.Queue.{place, waits};
 ghost use Rattle.tables.specs.Table.{Ready};
 ghost use Rattle.runs.specs.Stands.{Begins, Continues, Analysed};
 ghost use Rattle.runs.specs.Settled.{unsettled, Visited};
 
 use layout::{MAX_BLOCKS, QUEUE_SIZE};
 use paper::Rule;
+use std::marker::Model;
 
-// The blocks that wait: `count` bytes of the queue from `front` on, round its end.
-#[derive(Clone, Copy)]
-pub struct Ring {
-    pub front: usize,
-    pub count: usize,
+// The blocks that wait: `count` of the lent bytes from `front` on, round the end of the first QUEUE_SIZE.
+#[derive(Drop)]
+struct Queue<'a> {
+    bytes: &'a mut [u8],
+    front: usize,
+    count: usize,
+}
+
+impl<'a> Model for Queue<'a> {
+    ghost use Rattle.std.specs.Prelude.{List, ℕ};
+    ghost use Rattle.runs.specs.Queue.{held_from, Sound};
+
+    ghost Value = { List ℕ };
+
+    ghost view = { λ q. held_from q.bytes.now q.front q.count };
+
+    ghost invariant = { λ q. Sound q.bytes.now q.front q.count };
 }
 
 // The place n bytes behind `front`.
@@ -37,56 +50,67 @@ fn place(front: usize, n: usize) -> usize
     }
 }
 
-// A block more waits.
-fn append(queue: &mut [u8], ring: Ring, b: u8) -> Ring
-    requires { Sound queue.old ring × (ring.count < queue_size) }
-    ensures { Appended queue.old ring b queue.new result }
-{
-    let front = ring.front;
-    let count = ring.count;
-    let there = place(front, count);
-    queue[there] = b;
-    Ring {
-        front,
-        count: count + 1,
+impl<'a> Queue<'a> {
+    // No block waits.
+    fn new(bytes: &'a mut [u8]) -> Self
+        requires { queue_size ≤ length bytes.old }
+        ensures { result ≡ [] }
+    {
+        Queue {
+            bytes,
+            front: 0,
+            count: 0,
+        }
     }
-}
 
-// The block at the front waits no more.
-fn take(ring: Ring) -> Ring
-    requires { (ring.front < queue_size) × (0 < ring.count) }
-    ensures { (queue : List ℕ) → Sound queue ring → Taken queue ring result }
-{
-    let front = ring.front;
-    let count = ring.count;
-    Ring {
-        front: place(front, 1),
-        count: count - 1,
+    fn is_empty(&self) -> bool
+        ensures { IsTrue result ↔ (length self.now ≡ 0) }
+    {
+        self.count == 0
+    }
+
+    // A block more waits.
+    fn push(&mut self, b: u8)
+        requires { length self.old < queue_size }
+        ensures { self.new ≡ self.old ++ b ∷ [] }
+    {
+        let there = place(self.front, self.count);
+        self.bytes[there] = b;
+        self.count += 1;
+    }
+
+    // The block that waits longest waits no more.
+    fn take(&mut self) -> u8
+        requires { 0 < length self.old }
+        ensures { self.old ≡ result ∷ self.new }
+    {
+        let b = self.bytes[self.front];
+        self.front = place(self.front, 1);
+        self.count -= 1;
+        b
     }
 }
 
 // The run as it begins: the entry has its state and waits.
-fn begin(rule: Rule, words: &mut [u16], queue: &mut [u8]) -> Ring
-    requires { Ready words.old × (queue_size ≤ length queue.old) }
-    ensures { Begins rule words.old queue.old words.new queue.new result }
+fn begin(rule: Rule, words: &mut [u16], queue: &mut Queue)
+    requires { Ready words.old × (queue.old ≡ []) }
+    ensures { Begins rule words.old words.new queue.new }
 {
     let counts = loaded::row_counts(words);
     let entry = loaded::entry(words);
     tables::begin_blocks(rule, words);
     tables::enter(words, entry, cells::entry_state(rule, counts.regs));
-    append(queue, Ring { front: 0, count: 0 }, entry as u8)
+    queue.push(entry as u8);
 }
 
 // Where what came to block b is new, the block waits, and is settled no more.
-fn wait(new: bool, queue: &mut [u8], settled: &mut [bool; MAX_BLOCKS], ring: Ring, b: usize) -> Ring
-    requires { Sound queue.old ring × (ring.count < queue_size) × (b < max_blocks) }
-    ensures { Waits new b queue.old ring queue.new result × (settled.new ≡ unsettled new b settled.old) }
+fn wait(new: bool, queue: &mut Queue, settled: &mut [bool; MAX_BLOCKS], b: usize)
+    requires { (length queue.old < queue_size) × (b < max_blocks) }
+    ensures { (queue.new ≡ waits new b queue.old) × (settled.new ≡ unsettled new b settled.old) }
 {
     if new {
         settled[b] = false;
-        append(queue, ring, b as u8)
-    } else {
-        ring
+        queue.push(b as u8);
     }
 }
 
@@ -96,27 +120,23 @@ fn visit(
     table: &[[[u8; 4]; 4]; 2],
     rule: Rule,
     words: &mut [u16],
-    queue: &mut [u8],
+    queue: &mut Queue,
     settled: &mut [bool; MAX_BLOCKS],
-    ring: Ring,
-) -> Ring
-    requires { (table.now ≡ meet_table) × Continues rule words.old queue.old ring × (0 < ring.count) }
-    ensures { Visited rule words.old queue.old ring settled.old words.new queue.new result settled.new }
+)
+    requires { (table.now ≡ meet_table) × Continues rule words.old queue.old × (0 < length queue.old) }
+    ensures { Visited rule words.old queue.old settled.old words.new queue.new settled.new }
 {
-    let front = ring.front;
-    let b = queue[front] as usize;
-    let mut waiting = take(ring);
+    let b = queue.take() as usize;
     if settled[b] {
-        return waiting;
+        return;
     }
     settled[b] = true;
     let result = tables::result_of(rule, words, b);
     for i in 0..loaded::succ_total(words, b) {
         let s = loaded::successor(words, b, i);
         let new = tables::join(table, rule, words, s, result);
-        waiting = wait(new, queue, settled, waiting, s);
+        wait(new, queue, settled, s);
     }
-    waiting
 }
 
 // The run of a rule to its end, in the words behind the loaded sheet: how many visits it took.
@@ -125,11 +145,12 @@ pub fn analyze(rule: Rule, words: &mut [u16], queue: &mut [u8]) -> usize
     ensures { Analysed rule words.old queue.old words.new queue.new × paper_runs.EndsAfter rule (sheet_of words.old) result × (result ≤ paper_runs.visit_bound rule (sheet_of words.old)) }
 {
     let table = cells::meet_table();
-    let mut ring = begin(rule, words, queue);
+    let mut waiting = Queue::new(queue);
+    begin(rule, words, &mut waiting);
     let mut settled = [false; MAX_BLOCKS];
     let mut visits: usize = 0;
-    while 0 < ring.count {
-        ring = visit(&table, rule, words, queue, &mut settled, ring);
+    while !waiting.is_empty() {
+        visit(&table, rule, words, &mut waiting, &mut settled);
         visits += 1;
     }
     visits

@@ -5,8 +5,8 @@ use Rattle.loaded.specs.Loaded.{sheet_of}
 use Rattle.runs.proofs.LawsAnalysis.{Going}
 use Rattle.runs.proofs.analyze.Given as goal
 
-abbrev pub invariant-loop-ring : goal.invariant-loop-ring
-invariant-loop-ring l = Going l.rule l.initial.words l.initial.queue l.words l.queue l.ring l.settled l.visits
+abbrev pub invariant-loop-waiting : goal.invariant-loop-waiting
+invariant-loop-waiting l = Going l.rule l.initial.words l.words l.waiting l.settled l.visits
 
-abbrev pub decreases-loop-ring : goal.decreases-loop-ring
-decreases-loop-ring l = visit_bound l.rule (sheet_of l.initial.words) - l.visits
+abbrev pub decreases-loop-waiting : goal.decreases-loop-waiting
+decreases-loop-waiting l = visit_bound l.rule (sheet_of l.initial.words) - l.visits

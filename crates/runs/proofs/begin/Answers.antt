@@ -16,4 +16,4 @@ enter-requires c =
 
 pub returns : goal.returns
 returns c =
-    begun c.requires.0 (regs_are c.args.words.now c.row_counts-counts.result c.row_counts-counts.ensures) c.entry-entry.ensures c.begin_blocks.ensures.0 c.begin_blocks.ensures.1 c.enter.ensures c.entry_state.ensures c.append.ensures
+    begun c.requires.0 (regs_are c.args.words.now c.row_counts-counts.result c.row_counts-counts.ensures) c.entry-entry.ensures c.begin_blocks.ensures.0 c.begin_blocks.ensures.1 c.enter.ensures c.entry_state.ensures c.requires.1 c.push.ensures

@@ -8,4 +8,4 @@ use Rattle.runs.proofs.visit.Given as goal
 
 abbrev pub invariant-loop-i : goal.invariant-loop-i
 invariant-loop-i l =
-    Serving l.rule l.initial.words l.initial.queue l.initial.waiting l.result (succ_base l.b) (succ_total l.initial.words l.b) l.words l.queue l.waiting l.i × Settling l.rule l.initial.words l.initial.queue l.initial.waiting l.result (succ_base l.b) (succ_total l.initial.words l.b) l.initial.settled l.settled l.i
+    Serving l.rule l.initial.words l.initial.queue l.result (succ_base l.b) (succ_total l.initial.words l.b) l.words l.queue l.i × Settling l.rule l.initial.words l.initial.queue l.result (succ_base l.b) (succ_total l.initial.words l.b) l.initial.settled l.settled l.i
