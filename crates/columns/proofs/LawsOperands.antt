@@ -1,5 +1,5 @@
 -- Operands: those that stand before one are read again, and a group is counted operand by operand.
-use mathlib.Core.Path.{◌≡◌, refl, sym, ap, ◌∙◌, subst}
+use mathlib.Core.Path.{◌≡◌, refl, sym, ap, ◌∙◌}
 use mathlib.Core.Bool.{Bool, true, false, not, ◌&&◌}
 use mathlib.Core.List.{List, [], ◌∷◌, ◌++◌, append-nil, append_assoc}
 use mathlib.Core.Option.{Option, none, some, map}
@@ -13,14 +13,11 @@ use Rattle.paper.specs.Sheet.{Operand}
 use Rattle.paper.specs.Cells.{pick}
 use Rattle.paper.specs.Refusals.{Read, next, ◌>>=◌, allocation_of, operands_of, any, reg_beyond, is_reg, elsewhere, within, reg_within, same_name, same_reg, new_name, new_reg, at_home, operands_passing, group_passing}
 use Rattle.fields.specs.Fields.{fields_behind}
-use Rattle.records.specs.Records.{Behind, Next, NameBehind, AllocationBehind, name_of_code, register_of_code}
+use Rattle.records.specs.Records.{Behind, Next, name_of_code, register_of_code}
 use Rattle.records.specs.Parts.{put_first, NextOperand, operand_of_codes, counted}
-use Rattle.fields.specs.declared.Number.{Number}
-use Rattle.fields.specs.declared.Number.TheVariants as read
 use Rattle.columns.specs.declared.Sought.{Sought}
-use Rattle.columns.specs.declared.Group.{Group}
-use Rattle.columns.specs.declared.Group.TheVariants as group
-use Rattle.columns.specs.Columns.{Shown, Passed, Earlier, shares, name_test, register_test, OperandName, OperandRegister, GroupPassed, GroupShown, GroupPassing}
+use Rattle.columns.specs.declared.Code.TheVariants as held
+use Rattle.columns.specs.Columns.{Shown, Passed, Earlier, shares, name_test, register_test, GroupPassed, GroupShown}
 use Rattle.columns.proofs.LawsPassing.{passed_on}
 
 -- the codes of two names are the same where the names are
@@ -32,7 +29,7 @@ code_back : (c : ℕ) → code_of_name (name_of_code c) ≡ c
 unfolding name_of_code code_of_name
 code_back c = by_order c 100000 (λ h. rw (lt-ltb c 100000 h)) λ h. rw (le-ltb c 100000 h) (omega arith)
 
-pub name_shared : (code n r : ℕ) → eqb n code ≡ shares true code (operand_of_codes n r)
+pub name_shared : (code n r : ℕ) → eqb n code ≡ shares (held.Name code) (operand_of_codes n r)
 unfolding shares same_name
 name_shared code n r = go (name_same (name_of_code n) (name_of_code code))
   where
@@ -40,7 +37,7 @@ name_shared code n r = go (name_same (name_of_code n) (name_of_code code))
     go (yes e) = eq-eqb n code (sym (code_back n) ∙ ap code_of_name e ∙ code_back code)
     go (no f) = ne_eqb n code (λ e. f (ap name_of_code e))
 
-pub register_shared : (code n r : ℕ) → (ltb code 100000 && eqb r code) ≡ shares false code (operand_of_codes n r)
+pub register_shared : (code n r : ℕ) → (ltb code 100000 && eqb r code) ≡ shares (held.Register code) (operand_of_codes n r)
 unfolding shares same_reg register_of_code is_reg
 register_shared code n r =
     by_order code 100000
@@ -157,7 +154,7 @@ module _ (sought : Sought) (us : List Operand) (code : ℕ) where
   unfolding new_name
   name_unasked f = rw (ne_eqb sought.number 6 f)
 
-  pub name_earlier : {b : Bool} → sought.number ≡ 6 → b ≡ any (shares true code) us → new_name sought.number us (name_of_code code) ≡ not b
+  pub name_earlier : {b : Bool} → sought.number ≡ 6 → b ≡ any (shares (held.Name code)) us → new_name sought.number us (name_of_code code) ≡ not b
   unfolding new_name shares
   name_earlier e q = rw (eq-eqb sought.number 6 e, q)
 
@@ -185,7 +182,7 @@ module _ (sought : Sought) (us : List Operand) (name register : ℕ) where
       twice false = refl
 
   pub register_earlier : (eqb sought.number 6 && sought.defs) ≡ true
-      → any (shares false register) us ≡ not (register_test sought us (name_of_code name) (register_of_code register))
+      → any (shares (held.Register register)) us ≡ not (register_test sought us (name_of_code name) (register_of_code register))
   unfolding reg_within new_reg at_home shares
   register_earlier e =
       let six : sought.number ≡ 6 = eqb-true _ _ (and_left _ _ e) in
@@ -199,30 +196,6 @@ module _ (sought : Sought) (us : List Operand) (name register : ℕ) where
       → false ≡ not (register_test sought us (name_of_code name) (register_of_code register))
   unfolding reg_within new_reg at_home
   register_unasked f g e = rw (ne_eqb sought.number 5 f, ne_eqb sought.number 7 g, e)
-
--- what the code reads again of an operand before
-module _ {s : Bytes} {at : ℕ} {r : Number} where
-  pub name_again : {c after : ℕ} → NameBehind s at r → r ≡ read.Value c after → Next name_of s at (name_of_code c) after
-  name_again w e = (subst (NameBehind s at) e w).0
-
-  pub register_again : {c after : ℕ} → AllocationBehind s at r → r ≡ read.Value c after → Next allocation_of s at (register_of_code c) after
-  register_again w e = (subst (AllocationBehind s at) e w).0
-
--- what was told of an operand's fields, by their case
-module _ {s : Bytes} {at : ℕ} {r : Number} (sought : Sought) (us : List Operand) where
-  pub name_shown : OperandName sought us s at r → r ≡ read.Bad → Shown name_of (name_test sought us) s at
-  name_shown w e = subst (OperandName sought us s at) e w
-
-  pub name_passed : {c after : ℕ} → OperandName sought us s at r → r ≡ read.Value c after → Passed name_of (name_test sought us) s at (name_of_code c) after
-  name_passed w e = subst (OperandName sought us s at) e w
-
-  module _ (name : ℕ) where
-    pub register_shown : OperandRegister sought us name s at r → r ≡ read.Bad → Shown allocation_of (register_test sought us (name_of_code name)) s at
-    register_shown w e = subst (OperandRegister sought us name s at) e w
-
-    pub register_passed : {c after : ℕ} → OperandRegister sought us name s at r → r ≡ read.Value c after
-        → Passed allocation_of (register_test sought us (name_of_code name)) s at (register_of_code c) after
-    register_passed w e = subst (OperandRegister sought us name s at) e w
 
 -- a group, operand by operand
 
@@ -274,14 +247,15 @@ module _ {sought : Sought} {s : Bytes} {first n count i : ℕ} (g : Grouped soug
     unfolding group_passing
     whole more e = passed_on p _ e
 
-    pub grouped_done : n ≤ count → GroupPassed sought s at (1 + 2 * count) i
+    pub grouped_done : n ≤ count → GroupPassed sought s at (1 + 2 * n) i
     unfolding operands_passing
     grouped_done h =
         let z : n - count ≡ 0 = omega arith in
+        let e : count ≡ n = omega (arith, g.few) in
         record {
-          goes_on = λ more. whole more {k = 2 * count + more (fields_behind s i)} (g.gives more ∙ rw z refl) ∙ (omega arith);
+          goes_on = λ more. whole more {k = 2 * count + more (fields_behind s i)} (g.gives more ∙ rw z refl) ∙ (rw e (omega arith));
           behind = g.behind;
-          few = omega (arith, g.few);
+          few = omega arith;
         }
 
     module _ (h : count < n) where
@@ -322,11 +296,3 @@ module _ {sought : Sought} {s : Bytes} {first n count i : ℕ} (g : Grouped soug
               behind = reg.field.behind;
               few = omega arith;
             }
-
--- what was told of a group, by its case
-module _ (sought : Sought) (s : Bytes) (at : ℕ) {r : Group} where
-  pub group_shown : {count : ℕ} → GroupPassing sought s at r → r ≡ group.Shows count → GroupShown sought s at count
-  group_shown w e = subst (GroupPassing sought s at) e w
-
-  pub group_passed : {count after : ℕ} → GroupPassing sought s at r → r ≡ group.Passes count after → GroupPassed sought s at count after
-  group_passed w e = subst (GroupPassing sought s at) e w

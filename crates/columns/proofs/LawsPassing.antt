@@ -1,22 +1,20 @@
 -- One field: it passes and the count goes on behind it, or it shows the refusal and the count ends; and what each refusal's tests
 -- come to.
-use mathlib.Core.Path.{◌≡◌, refl, subst}
+use mathlib.Core.Path.{◌≡◌, refl}
 use mathlib.Core.Bool.{Bool, true, false, cond, not, ◌&&◌}
 use mathlib.Core.List.{List}
 use mathlib.Core.Option.{Option, none, some}
-use Prim.Native.Nat.{ℕ, zero, suc, ◌<◌}
+use Prim.Native.Nat.{ℕ, zero, suc}
 use native.Mathlib.Omega.{arith}
 use borrow.Author.Tests.{ne_eqb, lt-ltb, le-ltb, lt-leb, le-leb}
 use lib.Dec.{eqb, leb, ltb}
 use Rattle.lists.specs.Split.{by_test, by_order}
-use Rattle.paper.specs.Text.{Bytes, number_of, Name, name_of}
+use Rattle.paper.specs.Text.{Bytes, Name}
 use Rattle.paper.specs.Sheet.{Sheet}
 use Rattle.paper.specs.Refusals.{Read, next, name_beyond, onward, passing, within, name_within, rising}
 use Rattle.fields.specs.Fields.{fields_behind}
-use Rattle.fields.specs.declared.Number.{Number}
-use Rattle.fields.specs.declared.Number.TheVariants as read
-use Rattle.records.specs.Records.{Next, name_of_code}
-use Rattle.columns.specs.Columns.{Shown, Passed, NumberPassing, NamePassing}
+use Rattle.records.specs.Records.{Next}
+use Rattle.columns.specs.Columns.{Shown, Passed}
 
 module _ {A : Type 0} {read : Bytes → Option A} {test : A → Bool} {s : Bytes} {at : ℕ} where
   pub unread : next read (fields_behind s at) ≡ none → Shown read test s at
@@ -48,22 +46,6 @@ module _ {A : Type 0} {read : Bytes → Option A} {test : A → Bool} {s : Bytes
 
     pub passed_both : {v : A} {after : ℕ} → Passed read test s at v after → also v ≡ true → Passed read (λ a. test a && also a) s at v after
     passed_both p e = record { field = p.field; passes = rw (p.passes, e) }
-
--- what was told of a field, by its case
-module _ {s : Bytes} {at : ℕ} {r : Number} where
-  pub number_shows : (number limit : ℕ) → NumberPassing number limit s at r → r ≡ read.Bad → Shown number_of (within number limit) s at
-  number_shows number limit w e = subst (NumberPassing number limit s at) e w
-
-  pub number_passes : (number limit : ℕ) {v after : ℕ} → NumberPassing number limit s at r → r ≡ read.Value v after
-      → Passed number_of (within number limit) s at v after × (v < 100000)
-  number_passes number limit w e = subst (NumberPassing number limit s at) e w
-
-  pub name_shows : (number : ℕ) (S : Sheet) → NamePassing number S s at r → r ≡ read.Bad → Shown name_of (name_within number S) s at
-  name_shows number S w e = subst (NamePassing number S s at) e w
-
-  pub name_passes : (number : ℕ) (S : Sheet) {c after : ℕ} → NamePassing number S s at r → r ≡ read.Value c after
-      → Passed name_of (name_within number S) s at (name_of_code c) after
-  name_passes number S w e = subst (NamePassing number S s at) e w
 
 -- the tests
 

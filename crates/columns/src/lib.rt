@@ -12,7 +12,6 @@ ghost use Rattle.records.specs.Records.{Behind, name_of_code, register_of_code, 
 ghost use Rattle.records.specs.Parts.{counted, operand_of_codes};
 ghost use Rattle.columns.specs.Columns.{Opening, NumberPassing, NamePassing, Earlier, OperandName, register_test, OperandRegister, GroupPassing, shares};
 
-use fields::Number;
 use layout::MAX_SUCCS;
 use loaded::Counts;
 use paper::{BEYOND_LIMIT, ILL_FORMED, OUT_OF_ORDER, REAL_ELSEWHERE, TYPES_DIFFER};
@@ -39,39 +38,42 @@ pub struct Sought {
     pub defs: bool,
 }
 
-// How far a group of operands passes: all its fields, so many, up to a place; or so many, and the next one shows the refusal.
+// A name or a register in one number, as it is held against those of earlier operands.
 #[derive(Clone, Copy)]
-pub enum Group {
-    Passes { count: usize, next: usize },
-    Shows(usize),
+pub enum Code {
+    Name(u32),
+    Register(u32),
+}
+
+// A group of operands that passes: how many fields, and the place behind them.
+#[derive(Clone, Copy)]
+pub struct Group {
+    pub count: usize,
+    pub next: usize,
 }
 
 // The next field as a number that passes: under refusal 5 it is below its limit.
-fn passing_number(s: &[u8], at: usize, number: u8, limit: u32) -> Number
+fn passing_number(s: &[u8], at: usize, number: u8, limit: u32) -> Option<(u32, usize)>
     requires { Behind s.now at }
     ensures { NumberPassing number limit s.now at result }
 {
-    let Number::Value(v, next) = records::number_behind(s, at) else {
-        return Number::Bad;
-    };
+    let (v, next) = records::number_behind(s, at)?;
     if (number == BEYOND_LIMIT) & (limit <= v) {
-        return Number::Bad;
+        return None;
     }
-    Number::Value(v, next)
+    Some((v, next))
 }
 
 // The next field as a name that passes, in one number.
-fn passing_name(s: &[u8], at: usize, number: u8, counts: Counts) -> Number
+fn passing_name(s: &[u8], at: usize, number: u8, counts: Counts) -> Option<(u32, usize)>
     requires { Behind s.now at }
     ensures { NamePassing number (counted counts) s.now at result }
 {
-    let Number::Value(name, next) = records::name_behind(s, at) else {
-        return Number::Bad;
-    };
+    let (name, next) = records::name_behind(s, at)?;
     if (number == BEYOND_LIMIT) & records::name_beyond(name, counts) {
-        return Number::Bad;
+        return None;
     }
-    Number::Value(name, next)
+    Some((name, next))
 }
 
 // How many of all that is left of a line, one behind the other, are numbers that pass.
@@ -83,7 +85,7 @@ fn passing_numbers(s: &[u8], at: usize, number: u8, limit: u32) -> usize
     let mut count: usize = 0;
     let mut i = at;
     while s[i] != b'\n' {
-        let Number::Value(v, next) = passing_number(s, i, number, limit) else {
+        let Some((v, next)) = passing_number(s, i, number, limit) else {
             return count;
         };
         if (number == OUT_OF_ORDER) & (v < least) {
@@ -101,22 +103,22 @@ fn passing_function(s: &[u8], at: usize, number: u8) -> usize
     requires { Behind s.now at }
     ensures { result ≡ function_passing number (fields_behind s.now at) }
 {
-    let Number::Value(regs, a) = passing_number(s, at, number, REGS_END) else {
+    let Some((_, a)) = passing_number(s, at, number, REGS_END) else {
         return 0;
     };
-    let Number::Value(slots, b) = passing_number(s, a, number, SLOTS_END) else {
+    let Some((_, b)) = passing_number(s, a, number, SLOTS_END) else {
         return 1;
     };
-    let Number::Value(vregs, c) = passing_number(s, b, number, VREGS_END) else {
+    let Some((_, c)) = passing_number(s, b, number, VREGS_END) else {
         return 2;
     };
-    let Number::Value(blocks, d) = passing_number(s, c, number, BLOCKS_END) else {
+    let Some((blocks, d)) = passing_number(s, c, number, BLOCKS_END) else {
         return 3;
     };
     if (number == BEYOND_LIMIT) & (blocks == 0) {
         return 3;
     }
-    let Number::Value(entry, e) = passing_number(s, d, number, blocks) else {
+    let Some(_) = passing_number(s, d, number, blocks) else {
         return 4;
     };
     5
@@ -127,7 +129,7 @@ fn passing_typed(s: &[u8], at: usize, number: u8, counts: Counts) -> usize
     requires { Behind s.now at }
     ensures { result ≡ typed_passing number (counted counts) (fields_behind s.now at) }
 {
-    let Number::Value(n, next) = passing_number(s, at, number, counts.vregs) else {
+    let Some(_) = passing_number(s, at, number, counts.vregs) else {
         return 0;
     };
     if number == OUT_OF_ORDER { 0 } else { 1 }
@@ -147,10 +149,10 @@ fn passing_pair(s: &[u8], at: usize, number: u8, first: u32, second: u32) -> usi
     requires { Behind s.now at }
     ensures { result ≡ pair_passing number first second (fields_behind s.now at) }
 {
-    let Number::Value(a, middle) = passing_number(s, at, number, first) else {
+    let Some((_, middle)) = passing_number(s, at, number, first) else {
         return 0;
     };
-    let Number::Value(b, next) = passing_number(s, middle, number, second) else {
+    let Some(_) = passing_number(s, middle, number, second) else {
         return 1;
     };
     2
@@ -161,70 +163,68 @@ fn passing_change(s: &[u8], at: usize, number: u8, counts: Counts) -> usize
     requires { Behind s.now at }
     ensures { result ≡ change_passing number (counted counts) (fields_behind s.now at) }
 {
-    let Number::Value(inst, a) = passing_number(s, at, number, INST_END) else {
+    let Some((_, a)) = passing_number(s, at, number, INST_END) else {
         return 0;
     };
-    let Number::Value(slot, b) = passing_number(s, a, number, counts.slots) else {
+    let Some((_, b)) = passing_number(s, a, number, counts.slots) else {
         return 1;
     };
-    let Number::Value(from, c) = passing_name(s, b, number, counts) else {
+    let Some((_, c)) = passing_name(s, b, number, counts) else {
         return 2;
     };
-    let Number::Value(to, d) = passing_name(s, c, number, counts) else {
+    let Some(_) = passing_name(s, c, number, counts) else {
         return 3;
     };
     if number == TYPES_DIFFER { 3 } else { 4 }
 }
 
-// Has an operand this name, or this register, in one number?
-fn is_shared(names: bool, code: u32, name: u32, register: u32) -> bool
-    ensures { result ≡ shares names code (operand_of_codes name register) }
+// Has an operand this name, or this register?
+fn is_shared(code: Code, name: u32, register: u32) -> bool
+    ensures { result ≡ shares code (operand_of_codes name register) }
 {
-    if names {
-        name == code
-    } else {
-        (code < NO_ALLOCATION) & (register == code)
+    match code {
+        Code::Name(sought) => name == sought,
+        Code::Register(sought) => (sought < NO_ALLOCATION) & (register == sought),
     }
 }
 
 // Has one of the first `count` operands behind `at` this name, or this register?
-fn is_earlier(s: &[u8], at: usize, count: usize, names: bool, code: u32) -> bool
+fn is_earlier(s: &[u8], at: usize, count: usize, code: Code) -> bool
     requires { Behind s.now at }
-    ensures { (us : List Operand) → Earlier s.now at count us → result ≡ any (shares names code) us }
+    ensures { (us : List Operand) → Earlier s.now at count us → result ≡ any (shares code) us }
 {
-    let mut done: usize = 0;
     let mut i = at;
-    while done < count {
-        let Number::Value(name, middle) = records::name_behind(s, i) else {
+    for _ in 0..count {
+        let Some((name, middle)) = records::name_behind(s, i) else {
             return false;
         };
-        let Number::Value(register, next) = records::allocation_behind(s, middle) else {
+        let Some((register, next)) = records::allocation_behind(s, middle) else {
             return false;
         };
-        if is_shared(names, code, name, register) {
+        if is_shared(code, name, register) {
             return true;
         }
-        done += 1;
         i = next;
     }
     false
 }
 
 // The name of an operand behind `count` others, which stand from `first` on, in one number.
-fn operand_name(s: &[u8], at: usize, first: usize, count: usize, sought: Sought) -> Number
+fn operand_name(
+    s: &[u8],
+    at: usize,
+    first: usize,
+    count: usize,
+    sought: Sought,
+) -> Option<(u32, usize)>
     requires { Behind s.now at × Behind s.now first }
     ensures { (us : List Operand) → Earlier s.now first count us → OperandName sought us s.now at result }
 {
-    let Number::Value(name, next) = passing_name(s, at, sought.number, sought.counts) else {
-        return Number::Bad;
-    };
-    if sought.number != OUT_OF_ORDER {
-        return Number::Value(name, next);
+    let (name, next) = passing_name(s, at, sought.number, sought.counts)?;
+    if (sought.number == OUT_OF_ORDER) && is_earlier(s, first, count, Code::Name(name)) {
+        return None;
     }
-    if is_earlier(s, first, count, true, name) {
-        return Number::Bad;
-    }
-    Number::Value(name, next)
+    Some((name, next))
 }
 
 // Does the register of an operand of that name show the refusal?
@@ -248,7 +248,7 @@ fn register_shows(
         return records::is_elsewhere(name, register);
     }
     if (number == OUT_OF_ORDER) & sought.defs {
-        return is_earlier(s, first, count, false, register);
+        return is_earlier(s, first, count, Code::Register(register));
     }
     false
 }
@@ -261,44 +261,39 @@ fn operand_register(
     count: usize,
     name: u32,
     sought: Sought,
-) -> Number
+) -> Option<(u32, usize)>
     requires { Behind s.now at × Behind s.now first }
     ensures { (us : List Operand) → Earlier s.now first count us → OperandRegister sought us name s.now at result }
 {
-    let Number::Value(register, next) = records::allocation_behind(s, at) else {
-        return Number::Bad;
-    };
+    let (register, next) = records::allocation_behind(s, at)?;
     if register_shows(s, first, count, name, register, sought) {
-        return Number::Bad;
+        return None;
     }
-    Number::Value(register, next)
+    Some((register, next))
 }
 
-// `n (name reg)*n`.
-fn passing_group(s: &[u8], at: usize, sought: Sought) -> Group
+// `n (name reg)*n`: how many fields pass, all of them or those before the one that shows the refusal.
+fn passing_group(s: &[u8], at: usize, sought: Sought) -> Result<Group, usize>
     requires { Behind s.now at }
     ensures { GroupPassing sought s.now at result }
 {
-    let Number::Value(n, first) = passing_number(s, at, sought.number, OPERANDS_END) else {
-        return Group::Shows(0);
+    let Some((n, first)) = passing_number(s, at, sought.number, OPERANDS_END) else {
+        return Err(0);
     };
-    let mut count: usize = 0;
     let mut i = first;
-    while count < n as usize {
-        let Number::Value(name, middle) = operand_name(s, i, first, count, sought) else {
-            return Group::Shows(1 + 2 * count);
+    for count in 0..n as usize {
+        let Some((name, middle)) = operand_name(s, i, first, count, sought) else {
+            return Err(1 + 2 * count);
         };
-        let Number::Value(register, next) = operand_register(s, middle, first, count, name, sought)
-        else {
-            return Group::Shows(2 + 2 * count);
+        let Some((_, next)) = operand_register(s, middle, first, count, name, sought) else {
+            return Err(2 + 2 * count);
         };
-        count += 1;
         i = next;
     }
-    Group::Passes {
-        count: 1 + 2 * count,
+    Ok(Group {
+        count: 1 + 2 * n as usize,
         next: i,
-    }
+    })
 }
 
 // `O inst n (name reg)*n m (name reg)*m`.
@@ -306,38 +301,26 @@ fn passing_operation(s: &[u8], at: usize, number: u8, counts: Counts) -> usize
     requires { Behind s.now at }
     ensures { result ≡ operation_passing number (counted counts) (fields_behind s.now at) }
 {
-    let Number::Value(inst, first) = passing_number(s, at, number, INST_END) else {
+    let Some((_, first)) = passing_number(s, at, number, INST_END) else {
         return 0;
     };
-    let uses = passing_group(
-        s,
-        first,
-        Sought {
-            number,
-            counts,
-            defs: false,
-        },
-    );
-    match uses {
-        Group::Shows(shown) => 1 + shown,
-        Group::Passes { count, next } => {
-            let defs = passing_group(
-                s,
-                next,
-                Sought {
-                    number,
-                    counts,
-                    defs: true,
-                },
-            );
-            match defs {
-                Group::Shows(shown) => 1 + count + shown,
-                Group::Passes {
-                    count: more,
-                    next: end,
-                } => 1 + count + more,
-            }
-        }
+    let sought = Sought {
+        number,
+        counts,
+        defs: false,
+    };
+    let uses = match passing_group(s, first, sought) {
+        Ok(uses) => uses,
+        Err(shown) => return 1 + shown,
+    };
+    let sought = Sought {
+        number,
+        counts,
+        defs: true,
+    };
+    match passing_group(s, uses.next, sought) {
+        Ok(defs) => 1 + uses.count + defs.count,
+        Err(shown) => 1 + uses.count + shown,
     }
 }
 
@@ -346,7 +329,7 @@ fn passing_safepoint(s: &[u8], at: usize, number: u8, counts: Counts) -> usize
     requires { Behind s.now at }
     ensures { result ≡ safepoint_passing number (counted counts) (fields_behind s.now at) }
 {
-    let Number::Value(inst, first) = passing_number(s, at, number, INST_END) else {
+    let Some((_, first)) = passing_number(s, at, number, INST_END) else {
         return 0;
     };
     1 + passing_numbers(s, first, number, counts.slots)

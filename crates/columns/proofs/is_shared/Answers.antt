@@ -2,8 +2,8 @@
 use Rattle.columns.proofs.LawsOperands.{name_shared, register_shared}
 use Rattle.columns.proofs.is_shared.Goals as goal
 
-pub returns-then-names : goal.returns-then-names
-returns-then-names c = let a = c.args in rw c.if-names.true (name_shared a.code a.name a.register)
+pub returns-in-Name : goal.returns-in-Name
+returns-in-Name c = rw c.in-Name.is (name_shared _ _ c.args.register)
 
-pub returns-else-names : goal.returns-else-names
-returns-else-names c = let a = c.args in rw c.if-names.false (register_shared a.code a.name a.register)
+pub returns-in-Register : goal.returns-in-Register
+returns-in-Register c = rw c.in-Register.is (register_shared _ c.args.name _)

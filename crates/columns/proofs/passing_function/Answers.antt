@@ -2,70 +2,70 @@
 -- that it is not 0.
 use mathlib.Core.Path.{sym, refl, ◌∙◌}
 use Rattle.paper.specs.Refusals.{within, function_passing}
-use Rattle.columns.proofs.LawsPassing.{shown_first, shown_second, passed_both, passed_on, number_shows, number_passes, some_as}
+use Rattle.columns.proofs.LawsPassing.{shown_first, shown_second, passed_both, passed_on, some_as}
 use Rattle.columns.proofs.passing_function.Goals as goal
 
 pub returns-in_default : goal.returns-in_default
 unfolding function_passing
-returns-in_default c = sym ((number_shows _ _ c.passing_number.ensures c.in_default.is).stops _)
+returns-in_default c = sym (c.in_default.ensures.stops _)
 
 pub passing_number-requires-2 : goal.passing_number-requires-2
-passing_number-requires-2 c = ((number_passes _ _ c.passing_number.ensures c.in-Value.is).0).field.behind
+passing_number-requires-2 c = c.in-Some.ensures.0.field.behind
 
 pub returns-in_default-passing_number : goal.returns-in_default-passing_number
 unfolding function_passing
 returns-in_default-passing_number c =
-    sym (passed_on ((number_passes _ _ c.passing_number.ensures c.in-Value.is).0) _ ((number_shows _ _ c.passing_number-2.ensures c.in_default-passing_number.is).stops _))
+    sym (passed_on c.in-Some.ensures.0 _ (c.in_default-passing_number.ensures.stops _))
 
 pub passing_number-requires-3 : goal.passing_number-requires-3
-passing_number-requires-3 c = ((number_passes _ _ c.passing_number-2.ensures c.in-Value-passing_number.is).0).field.behind
+passing_number-requires-3 c = c.in-Some-passing_number.ensures.0.field.behind
 
 pub returns-in_default-passing_number-2 : goal.returns-in_default-passing_number-2
 unfolding function_passing
 returns-in_default-passing_number-2 c =
-    sym (passed_on ((number_passes _ _ c.passing_number.ensures c.in-Value.is).0) _ (passed_on ((number_passes _ _ c.passing_number-2.ensures c.in-Value-passing_number.is).0) _ ((number_shows _ _ c.passing_number-3.ensures c.in_default-passing_number-2.is).stops _)))
+    sym (passed_on c.in-Some.ensures.0 _ (passed_on c.in-Some-passing_number.ensures.0 _ (c.in_default-passing_number-2.ensures.stops _)))
 
 pub passing_number-requires-4 : goal.passing_number-requires-4
-passing_number-requires-4 c = ((number_passes _ _ c.passing_number-3.ensures c.in-Value-passing_number-2.is).0).field.behind
+passing_number-requires-4 c = c.in-Some-passing_number-2.ensures.0.field.behind
 
 pub returns-in_default-passing_number-3 : goal.returns-in_default-passing_number-3
 unfolding function_passing
 returns-in_default-passing_number-3 c =
     sym
-    (passed_on ((number_passes _ _ c.passing_number.ensures c.in-Value.is).0) _
-    (passed_on ((number_passes _ _ c.passing_number-2.ensures c.in-Value-passing_number.is).0) _
-    (passed_on ((number_passes _ _ c.passing_number-3.ensures c.in-Value-passing_number-2.is).0) _ ((shown_first _ (number_shows _ _ c.passing_number-4.ensures c.in_default-passing_number-3.is)).stops _))))
+    (passed_on c.in-Some.ensures.0 _
+    (passed_on c.in-Some-passing_number.ensures.0 _
+    (passed_on c.in-Some-passing_number-2.ensures.0 _ ((shown_first _ c.in_default-passing_number-3.ensures).stops _))))
 
 pub returns-then-number-blocks : goal.returns-then-number-blocks
 unfolding function_passing
 returns-then-number-blocks c =
     let number = c.args.number in
     sym
-    (passed_on ((number_passes _ _ c.passing_number.ensures c.in-Value.is).0) _
-    (passed_on ((number_passes _ _ c.passing_number-2.ensures c.in-Value-passing_number.is).0) _
-    (passed_on ((number_passes _ _ c.passing_number-3.ensures c.in-Value-passing_number-2.is).0) _ ((shown_second (λ n. within number n 0) ((number_passes _ _ c.passing_number-4.ensures c.in-Value-passing_number-3.is).0) (some_as number _ ∙ rw c.if-number-blocks.true)).stops _))))
+    (passed_on c.in-Some.ensures.0 _
+    (passed_on c.in-Some-passing_number.ensures.0 _
+    (passed_on c.in-Some-passing_number-2.ensures.0 _ ((shown_second (λ n. within number n 0) c.in-Some-passing_number-3.ensures.0 (some_as number _ ∙ rw c.if-number-blocks.true)).stops _))))
 
 pub passing_number-requires-5 : goal.passing_number-requires-5
-passing_number-requires-5 c = ((number_passes _ _ c.passing_number-4.ensures c.in-Value-passing_number-3.is).0).field.behind
+passing_number-requires-5 c = c.in-Some-passing_number-3.ensures.0.field.behind
 
 pub returns-in_default-passing_number-4 : goal.returns-in_default-passing_number-4
 unfolding function_passing
 returns-in_default-passing_number-4 c =
     let number = c.args.number in
     sym
-    (passed_on ((number_passes _ _ c.passing_number.ensures c.in-Value.is).0) _
-    (passed_on ((number_passes _ _ c.passing_number-2.ensures c.in-Value-passing_number.is).0) _
-    (passed_on ((number_passes _ _ c.passing_number-3.ensures c.in-Value-passing_number-2.is).0) _
-    (passed_on (passed_both (λ c. within number c 0) ((number_passes _ _ c.passing_number-4.ensures c.in-Value-passing_number-3.is).0) (some_as number _ ∙ rw c.if-number-blocks.false)) _
-    ((number_shows _ _ c.passing_number-5.ensures c.in_default-passing_number-4.is).stops _)))))
+    (passed_on c.in-Some.ensures.0 _
+    (passed_on c.in-Some-passing_number.ensures.0 _
+    (passed_on c.in-Some-passing_number-2.ensures.0 _
+    (passed_on (passed_both (λ c. within number c 0) c.in-Some-passing_number-3.ensures.0 (some_as number _ ∙ rw c.if-number-blocks.false)) _
+    (c.in_default-passing_number-4.ensures.stops _)))))
 
 pub returns : goal.returns
 unfolding function_passing
 returns c =
     let number = c.args.number in
     sym
-    (passed_on ((number_passes _ _ c.passing_number.ensures c.in-Value.is).0) _
-    (passed_on ((number_passes _ _ c.passing_number-2.ensures c.in-Value-passing_number.is).0) _
-    (passed_on ((number_passes _ _ c.passing_number-3.ensures c.in-Value-passing_number-2.is).0) _
-    (passed_on (passed_both (λ n. within number n 0) ((number_passes _ _ c.passing_number-4.ensures c.in-Value-passing_number-3.is).0) (some_as number _ ∙ rw c.if-number-blocks.false)) _
-    (passed_on (number_passes _ _ c.passing_number-5.ensures c.in-Value-passing_number-4.is).0 _ refl)))))
+    (passed_on c.in-Some.ensures.0 _
+    (passed_on c.in-Some-passing_number.ensures.0 _
+    (passed_on c.in-Some-passing_number-2.ensures.0 _
+    (passed_on (passed_both (λ n. within number n 0) c.in-Some-passing_number-3.ensures.0 (some_as number _ ∙ rw c.if-number-blocks.false)) _
+    (passed_on c.in-Some-passing_number-4.ensures.0 _ refl)))))

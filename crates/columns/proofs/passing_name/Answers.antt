@@ -3,15 +3,15 @@ use mathlib.Core.Path.{◌∙◌}
 use Rattle.columns.proofs.LawsPassing.{unread, shown_by, name_within_as}
 use Rattle.columns.proofs.passing_name.Goals as goal
 
-pub returns-in_default : goal.returns-in_default
-returns-in_default c = unread (rw c.in_default.is at c.name_behind.ensures)
+pub returns-in_err-name : goal.returns-in_err-name
+returns-in_err-name c = rw c.from_residual.ensures (unread c.in_err-name.ensures)
 
 pub returns-then-number-name_beyond : goal.returns-then-number-name_beyond
 returns-then-number-name_beyond c =
-    let w = rw c.in-Value.is at c.name_behind.ensures in
-    shown_by w.0 (name_within_as _ _ _ ∙ rw (← c.name_beyond.ensures, c.if-number-name_beyond.true))
+    shown_by c.in_ok-name.ensures.0 (name_within_as _ _ _ ∙ rw (← c.name_beyond.ensures, c.if-number-name_beyond.true))
 
 pub returns : goal.returns
-returns c =
-    let w = rw c.in-Value.is at c.name_behind.ensures in
-    record { field = w.0; passes = name_within_as _ _ _ ∙ rw (← c.name_beyond.ensures, c.if-number-name_beyond.false) }
+returns c = record {
+  field = c.in_ok-name.ensures.0;
+  passes = name_within_as _ _ _ ∙ rw (← c.name_beyond.ensures, c.if-number-name_beyond.false);
+}

@@ -3,15 +3,13 @@ use mathlib.Core.Path.{◌∙◌}
 use Rattle.columns.proofs.LawsPassing.{unread, shown_by, within_as}
 use Rattle.columns.proofs.passing_number.Goals as goal
 
-pub returns-in_default : goal.returns-in_default
-returns-in_default c = unread (rw c.in_default.is at c.number_behind.ensures)
+pub returns-in_err-v : goal.returns-in_err-v
+returns-in_err-v c = rw c.from_residual.ensures (unread c.in_err-v.ensures)
 
 pub returns-then-number-limit : goal.returns-then-number-limit
-returns-then-number-limit c =
-    let w = rw c.in-Value.is at c.number_behind.ensures in
-    shown_by w.0 (within_as _ _ _ ∙ rw c.if-number-limit.true)
+returns-then-number-limit c = shown_by c.in_ok-v.ensures.0 (within_as _ _ _ ∙ rw c.if-number-limit.true)
 
 pub returns : goal.returns
 returns c =
-    let w = rw c.in-Value.is at c.number_behind.ensures in
+    let w = c.in_ok-v.ensures in
     (record { field = w.0; passes = within_as _ _ _ ∙ rw c.if-number-limit.false }, w.1)

@@ -1,5 +1,4 @@
 use native.Mathlib.Omega.{arith}
-use Rattle.columns.proofs.LawsPassing.{number_shows, number_passes}
 use Rattle.columns.proofs.LawsNumbers.{counting_none, counting_bad, counting_done, counting_falls, counting_more}
 use Rattle.columns.proofs.passing_numbers.Goals as goal
 
@@ -13,27 +12,27 @@ pub passing_number-requires : goal.passing_number-requires
 passing_number-requires c = c.loop-i.invariant.behind
 
 pub returns-in_default : goal.returns-in_default
-returns-in_default c = counting_bad c.loop-i.invariant (number_shows _ _ c.passing_number.ensures c.in_default.is)
+returns-in_default c = counting_bad c.loop-i.invariant c.in_default.ensures
 
 pub returns-then-number-v : goal.returns-then-number-v
 returns-then-number-v c =
-    let w = (number_passes _ _ c.passing_number.ensures c.in-Value.is) in
+    let w = c.in-Some.ensures in
     counting_falls c.loop-i.invariant w.0 c.if-number-v.true
 
 pub overflow_add-least : goal.overflow_add-least
-overflow_add-least c = let w = (number_passes _ _ c.passing_number.ensures c.in-Value.is) in omega (arith, w.1)
+overflow_add-least c = let w = c.in-Some.ensures in omega (arith, w.1)
 
 pub overflow_add-count : goal.overflow_add-count
 overflow_add-count c = omega (arith, c.loop-i.invariant.few, c.loop-i.invariant.behind.inside, c.loop-i.invariant.behind.size)
 
 pub loop-i-smaller : goal.loop-i-smaller
 loop-i-smaller c =
-    let w = (number_passes _ _ c.passing_number.ensures c.in-Value.is) in
+    let w = c.in-Some.ensures in
     omega (arith, w.0.field.further, w.0.field.behind.inside)
 
 pub loop-i-preserved : goal.loop-i-preserved
 loop-i-preserved c =
-    let w = (number_passes _ _ c.passing_number.ensures c.in-Value.is) in
+    let w = c.in-Some.ensures in
     counting_more c.loop-i.invariant w.0 c.if-number-v.false w.1
 
 pub returns : goal.returns

@@ -2,22 +2,22 @@
 use mathlib.Core.Path.{sym, ◌∙◌}
 use native.Mathlib.Omega.{arith}
 use Rattle.paper.specs.Refusals.{safepoint_passing}
-use Rattle.columns.proofs.LawsPassing.{passed_on, number_shows, number_passes}
+use Rattle.columns.proofs.LawsPassing.{passed_on}
 use Rattle.columns.proofs.LawsNumbers.{numbers_small}
 use Rattle.columns.proofs.passing_safepoint.Goals as goal
 
 pub returns-in_default : goal.returns-in_default
 unfolding safepoint_passing
-returns-in_default c = sym ((number_shows _ _ c.passing_number.ensures c.in_default.is).stops _)
+returns-in_default c = sym (c.in_default.ensures.stops _)
 
 pub passing_numbers-requires : goal.passing_numbers-requires
-passing_numbers-requires c = ((number_passes _ _ c.passing_number.ensures c.in-Value.is).0).field.behind
+passing_numbers-requires c = c.in-Some.ensures.0.field.behind
 
 pub overflow_add-result : goal.overflow_add-result
-overflow_add-result c = omega (arith, numbers_small _ _ _ ((number_passes _ _ c.passing_number.ensures c.in-Value.is).0).field.behind c.passing_numbers.ensures)
+overflow_add-result c = omega (arith, numbers_small _ _ _ c.in-Some.ensures.0.field.behind c.passing_numbers.ensures)
 
 pub returns : goal.returns
 unfolding safepoint_passing
 returns c =
     let e = c.passing_numbers.ensures in
-    sym (passed_on ((number_passes _ _ c.passing_number.ensures c.in-Value.is).0) _ (sym e) ∙ (omega arith))
+    sym (passed_on c.in-Some.ensures.0 _ (sym e) ∙ (omega arith))

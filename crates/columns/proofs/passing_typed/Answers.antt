@@ -4,21 +4,21 @@ use mathlib.Core.Bool.{not}
 use borrow.Author.Tests.{eq-eqb, ne_eqb}
 use lib.Dec.{eqb}
 use Rattle.paper.specs.Refusals.{typed_passing}
-use Rattle.columns.proofs.LawsPassing.{shown_first, shown_second, passed_both, passed_on, number_shows, number_passes}
+use Rattle.columns.proofs.LawsPassing.{shown_first, shown_second, passed_both, passed_on}
 use Rattle.columns.proofs.passing_typed.Goals as goal
 
 pub returns-in_default : goal.returns-in_default
 unfolding typed_passing
-returns-in_default c = sym ((shown_first _ (number_shows _ _ c.passing_number.ensures c.in_default.is)).stops _)
+returns-in_default c = sym ((shown_first _ c.in_default.ensures).stops _)
 
 pub returns-then-number-eq-OUT_OF_ORDER : goal.returns-then-number-eq-OUT_OF_ORDER
 unfolding typed_passing
 returns-then-number-eq-OUT_OF_ORDER c =
-    let p = (number_passes _ _ c.passing_number.ensures c.in-Value.is).0 in
+    let p = c.in-Some.ensures.0 in
     sym ((shown_second (λ n. not (eqb c.args.number 6)) p (rw (eq-eqb _ 6 c.if-number-eq-OUT_OF_ORDER.true))).stops _)
 
 pub returns-else-number-eq-OUT_OF_ORDER : goal.returns-else-number-eq-OUT_OF_ORDER
 unfolding typed_passing
 returns-else-number-eq-OUT_OF_ORDER c =
-    let p = (number_passes _ _ c.passing_number.ensures c.in-Value.is).0 in
+    let p = c.in-Some.ensures.0 in
     sym (passed_on (passed_both (λ n. not (eqb c.args.number 6)) p (rw (ne_eqb _ 6 c.if-number-eq-OUT_OF_ORDER.false))) _ refl)
