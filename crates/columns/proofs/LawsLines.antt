@@ -3,11 +3,10 @@ use mathlib.Core.Path.{◌≡◌, refl, sym, ap, ◌∙◌}
 use mathlib.Core.Bool.{Bool, true, false, not, ◌&&◌}
 use mathlib.Core.List.{List, []}
 use mathlib.Core.Option.{Option, none, some}
-use Prim.Native.Nat.{ℕ, zero, suc, ◌+◌, ◌≤◌}
+use Prim.Native.Nat.{ℕ, zero, suc, ◌+◌, ◌<◌}
 use native.Mathlib.Omega.{arith}
 use borrow.Author.Tests.{ne_eqb}
 use lib.Dec.{eqb}
-use lib.ListN.{length}
 use Rattle.paper.specs.Text.{Bytes, fields, number_of, Name, real, virtual, name_of}
 use Rattle.paper.specs.Sheet.{Operand, Sheet}
 use Rattle.paper.specs.Refusals.{Read, next, one_byte, allocation_of, name_beyond, reg_beyond, onward, passing, within, name_within, reg_within, new_name, new_reg, at_home, typed_passing, block_passing, change_passing, operands_passing, group_passing, operation_passing, safepoint_passing, field_by_letter, field_shown}
@@ -18,25 +17,22 @@ use Rattle.records.specs.Parts.{counted}
 use Rattle.records.specs.Letters.{letter_ends, behind_letter}
 use Rattle.loaded.specs.declared.Counts.{Counts}
 use Rattle.columns.specs.Columns.{Opening}
-use Rattle.columns.specs.Bounds.{behind_most}
 
 -- by its letter
 
 module _ {s : Bytes} {at letter : ℕ} (o : Opening s at letter) where
-  some_letter : (letter ≡ 0 → ⊥) → one_byte (field_at s at) ≡ 0 → ⊥
-  some_letter d z = d (o.is_letter ∙ z)
+  some_letter : 0 < letter → one_byte (field_at s at) ≡ 0 → ⊥
+  some_letter d z = omega (arith, d, o.is_letter, z)
 
-  pub behind_its_letter : (letter ≡ 0 → ⊥) → Behind s (at + 1)
+  pub behind_its_letter : 0 < letter → Behind s (at + 1)
   behind_its_letter d = behind_letter s at o.inside (some_letter d) o.last o.size
 
-  -- so many fields can be counted
-  pub few_behind : (letter ≡ 0 → ⊥) → (n : ℕ) → n ≤ length (fields_behind s (at + 1)) → n ≤ 65536
-  few_behind d n h = let b = behind_its_letter d in omega (arith, behind_most s (at + 1) b.inside, b.size)
-
   module _ (number : ℕ) (S : Sheet) where
-    pub by_its_letter : (letter ≡ 0 → ⊥) → field_by_letter number S letter (fields_behind s (at + 1)) ≡ field_shown number S (fields (line_at s at))
+    -- what is counted behind a letter tells the line's field
+    pub by_its_letter : 0 < letter → {n : ℕ} → n ≡ field_by_letter number S letter (fields_behind s (at + 1))
+        → n ≡ field_shown number S (fields (line_at s at))
     unfolding field_shown
-    by_its_letter d = rw (fields_at s at, ← o.is_letter, letter_ends s at o.inside (some_letter d))
+    by_its_letter d e = rw (fields_at s at, ← o.is_letter, letter_ends s at o.inside (some_letter d)) e
 
     pub by_no_letter : (letter ≡ 70 → ⊥) → (letter ≡ 84 → ⊥) → (letter ≡ 66 → ⊥) → (letter ≡ 83 → ⊥) → (letter ≡ 76 → ⊥)
         → (letter ≡ 77 → ⊥) → (letter ≡ 67 → ⊥) → (letter ≡ 79 → ⊥) → (letter ≡ 80 → ⊥) → 1 ≡ field_shown number S (fields (line_at s at))

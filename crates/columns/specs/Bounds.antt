@@ -160,3 +160,14 @@ behind_most s at h =
     by_test (eqb (get_or s at 0) tab)
     (λ t. rw t (omega (arith, fields_most (line_at s (at + 1)), line_most s (at + 1))))
     λ t. rw t (omega arith)
+
+-- wherever the place stands, there are few fields behind it
+pub behind_few : (s : Bytes) (at : ℕ) → length (fields_behind s at) ≤ suc (length s)
+unfolding fields_behind
+behind_few s at =
+    by_test (eqb (get_or s at 0) tab)
+    (λ t. rw t (omega (arith, fields_most (line_at s (at + 1)), line_most s (at + 1))))
+    λ t. rw t (omega arith)
+
+-- what passes is few
+pub ruleset few_pass = (behind_few, function_most, typed_most, block_most, pair_most, change_most, operation_most, safepoint_most)

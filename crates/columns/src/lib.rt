@@ -343,6 +343,7 @@ fn names_field(number: u8) -> bool
 }
 
 // The first field of the line at `at`, of that letter, that does not pass, the letter being 1; an unknown letter does not.
+#[tactic(auto, using(crate::specs::Bounds::few_pass))]
 fn shown_field(s: &[u8], at: usize, letter: u8, number: u8, counts: Counts) -> usize
     requires { Opening s.now at letter }
     ensures { (S : Sheet) → Counted S counts → result ≡ field_shown number S (fields (line_at s.now at)) }
