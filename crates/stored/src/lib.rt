@@ -6,7 +6,6 @@
 ghost use Rattle.std.specs.Prelude.{◌≡◌};
 ghost use Rattle.stored.specs.Counted as told;
 
-use frames::Frame;
 use layout::{QUEUE_SIZE, WORDS_SIZE};
 use paper::Rule;
 use states::{Part, STATES_SIZE};
@@ -45,22 +44,23 @@ fn next(n: u64) -> u64
 pub fn counted(tally: Tally, outcome: Outcome) -> Tally
     ensures { result ≡ told.counted tally outcome }
 {
-    let same = tally.same;
-    let different = tally.different;
+    let Tally {
+        same, different, ..
+    } = tally;
     match outcome {
         Outcome::Same => Tally {
             same: next(same),
-            different: different,
+            different,
             more: true,
         },
         Outcome::Different => Tally {
-            same: same,
+            same,
             different: next(different),
             more: true,
         },
         Outcome::End => Tally {
-            same: same,
-            different: different,
+            same,
+            different,
             more: false,
         },
     }
@@ -68,8 +68,9 @@ pub fn counted(tally: Tally, outcome: Outcome) -> Tally
 
 // Writes how many sheets were the same, and how many differ.
 pub fn say<W: Write>(output: &mut W, tally: Tally) -> io::Result<()> {
-    let same = tally.same;
-    let different = tally.different;
+    let Tally {
+        same, different, ..
+    } = tally;
     writeln!(output, "{same} sheets the same, {different} different")
 }
 
@@ -90,11 +91,9 @@ struct Scratch {
 
 // Is the next frame the text?
 fn next_is<R: Read>(input: &mut R, text: &[u8], stored: &mut [u8]) -> bool {
-    let frame = frames::read(input, stored);
-    match frame {
-        Frame::Read(length) => check::same(text, &stored[..length]),
-        Frame::End => false,
-        Frame::Malformed => false,
+    match frames::read(input, stored) {
+        Ok(Some(length)) => text == &stored[..length],
+        _ => false,
     }
 }
 
@@ -130,13 +129,11 @@ fn same_part<R: Read>(
 
 // Does an answer agree with the next frame? A report says that the sheet was read.
 fn agrees<R: Read>(input: &mut R, text: &[u8], stored: &mut [u8]) -> bool {
-    if text.len() == 0 {
-        return false;
+    match text.first() {
+        Some(b'X') => next_is(input, text, stored),
+        Some(_) => next_is(input, b"ok\n", stored),
+        None => false,
     }
-    if text[0] == b'X' {
-        return next_is(input, text, stored);
-    }
-    next_is(input, b"ok\n", stored)
 }
 
 // Is what the reader makes of a sheet what is stored?
@@ -186,8 +183,7 @@ fn one<R: Read>(
     text: &mut [u8],
     scratch: &mut Scratch,
 ) -> Outcome {
-    let frame = frames::read(input, sheet);
-    let Frame::Read(length) = frame else {
+    let Ok(Some(length)) = frames::read(input, sheet) else {
         return Outcome::End;
     };
     if same(input, list, &sheet[..length], stored, text, scratch) {
@@ -211,8 +207,7 @@ pub fn run<R: Read, W: Write>(input: &mut R, output: &mut W, list: List) -> io::
         different: 0,
         more: true,
     };
-    let mut turns: u64 = 1000000;
-    while turns > 0 && tally.more {
+    for _ in 0..1000000 {
         let outcome = one(
             input,
             list,
@@ -222,7 +217,9 @@ pub fn run<R: Read, W: Write>(input: &mut R, output: &mut W, list: List) -> io::
             &mut scratch,
         );
         tally = counted(tally, outcome);
-        turns -= 1;
+        if !tally.more {
+            break;
+        }
     }
     say(output, tally)
 }
