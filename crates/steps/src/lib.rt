@@ -152,17 +152,22 @@ fn check_uses(
     Ok(())
 }
 
-// The listed slots, lowest first: the first that fails.
+// The listed slots, lowest first: the first that fails. Document 01 names this form: a labelled break leaves the search over listed
+// slots, and the loop yields the fault.
 fn check_stackmap(row: &[u16; ROW_WORDS], mask: u32) -> Result<(), CheckerError>
     ensures { result ≡ first_error (slot_in row.now) (set_bits mask) }
 {
     let mut left = mask;
-    while left != 0 {
+    'search: loop {
+        if left == 0 {
+            break 'search Ok(());
+        }
         let slot = left.trailing_zeros() as usize;
-        check_slot(slot, row[slot])?;
+        if let Err(error) = check_slot(slot, row[slot]) {
+            break 'search Err(error);
+        }
         left = cells::without_lowest(left);
     }
-    Ok(())
 }
 
 // What is wrong with a step in a state.

@@ -1,6 +1,6 @@
 -- From the parts to the text: a line of its parts, a step's line by its action, a block's lines, all lines; and what the reader's answer
 -- to it says.
-use Rattle.std.specs.Prelude.{Ok, Err}
+use Rattle.std.specs.Prelude.{is_ok, Ok, Err}
 use mathlib.Core.Path.{◌≡◌, refl, sym, ap, ◌∙◌}
 use mathlib.Core.Bool.{true, false}
 use mathlib.Core.List.{List, [], ◌∷◌, ◌++◌, map, append-nil, append_assoc}
@@ -219,15 +219,10 @@ whole_text words =
 
 -- the reader's answer
 
-pub loaded_read : (R : Reading) → loading_of R ≡ (Ok tt) → true ≡ is_read R
+pub read_answer : (R : Reading) → is_ok (loading_of R) ≡ is_read R
 unfolding loading_of is_read
-loaded_read (loaded S) e = refl
-loaded_read (refused refusal) e = let z : ◌≡◌ {A = ℕ} 0 1 = cc in absurd (omega arith)
-
-pub refused_read : (R : Reading) (refusal : Refusal) → loading_of R ≡ Err refusal → false ≡ is_read R
-unfolding loading_of is_read
-refused_read (loaded S) refusal e = let z : ◌≡◌ {A = ℕ} 0 1 = cc in absurd (omega arith)
-refused_read (refused q) refusal e = refl
+read_answer (loaded S) = refl
+read_answer (refused refusal) = refl
 
 -- the text, laid into a buffer
 pub lay_next : (text : Bytes) (i j : ℕ) → i < length text → j ≡ i + 1 → drop i text ≡ (get_or text i 0 ∷ []) ++ drop j text

@@ -427,6 +427,7 @@ impl From<Result<(), Refusal>> for LoadVerdict {
 
     ghost from_gives = { λ loading verdict. verdict ≡ load_verdict_of loading };
 
+    #[tactic(auto, unfolding(crate::specs::Load::load_verdict_of))]
     fn from(loading: Result<(), Refusal>) -> LoadVerdict {
         match loading {
             Ok(()) => LoadVerdict {
@@ -457,6 +458,7 @@ impl From<Result<usize, Unwritten>> for WriteVerdict {
 
     ghost from_gives = { λ written verdict. verdict ≡ verdict_of written };
 
+    #[tactic(auto, unfolding(crate::specs::Form::verdict_of))]
     fn from(written: Result<usize, Unwritten>) -> WriteVerdict {
         match written {
             Ok(length) => WriteVerdict { answer: 0, length },

@@ -16,9 +16,6 @@ returns-then-no_text c = no_sheet _ _ (sym c.no_text.ensures ∙ c.if-no_text.tr
 pub slice_bounds-clear-end-2 : goal.slice_bounds-clear-end-2
 slice_bounds-clear-end-2 c = sym (length-take-le block_base c.args.words.now (omega arith))
 
-pub clear-requires : goal.clear-requires
-clear-requires c = tt
-
 pub loop-at-init : goal.loop-at-init
 loop-at-init c =
     ahead_at_first _ _ _ (sym c.no_text.ensures ∙ c.if-no_text.false) (cleared_blank c.args.words.now _ c.clear.ensures

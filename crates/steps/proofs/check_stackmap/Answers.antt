@@ -3,15 +3,15 @@ use Rattle.steps.specs.Checks.{slot_in}
 use Rattle.steps.proofs.LawsChecks.{next_slot, no_slot}
 use Rattle.steps.proofs.check_stackmap.Goals as goal
 
-pub returns-in_err-check_slot : goal.returns-in_err-check_slot
-returns-in_err-check_slot c =
-    let t = rw (sym c.check_slot.ensures ∙ c.in_err-check_slot.was) at (next_slot (slot_in c.args.row.now) c.loop-left.left c.loop-left-test.true c.loop-left.invariant.0) in
+pub returns-then-left-eq0 : goal.returns-then-left-eq0
+returns-then-left-eq0 c = no_slot _ _ c.if-left-eq0.true ∙ sym c.search.invariant.1
+
+pub returns-in-Err : goal.returns-in-Err
+returns-in-Err c =
+    let t = rw (sym c.check_slot.ensures ∙ c.in-Err.is) at (next_slot (slot_in c.args.row.now) c.search.left c.if-left-eq0.false c.search.invariant.0) in
     search rules
 
-pub loop-left-preserved : goal.loop-left-preserved
-loop-left-preserved c =
-    let t = rw (sym c.check_slot.ensures ∙ c.in_ok-check_slot.was) at (next_slot (slot_in c.args.row.now) c.loop-left.left c.loop-left-test.true c.loop-left.invariant.0) in
-    (omega (arith, c.without_lowest-left.ensures), rw c.without_lowest-left.ensures (c.loop-left.invariant.1 ∙ t))
-
-pub returns : goal.returns
-returns c = no_slot _ _ c.loop-left-test.false ∙ sym c.loop-left.invariant.1
+pub search-preserved : goal.search-preserved
+search-preserved c =
+    let t = rw (sym c.check_slot.ensures ∙ c.in_default.is) at (next_slot (slot_in c.args.row.now) c.search.left c.if-left-eq0.false c.search.invariant.0) in
+    (omega (arith, c.without_lowest-left.ensures), rw c.without_lowest-left.ensures (c.search.invariant.1 ∙ t))

@@ -5,8 +5,8 @@ use Rattle.lists.specs.Bits.{set_bits}
 use Rattle.steps.specs.Checks.{first_error, slot_in}
 use Rattle.steps.proofs.check_stackmap.Given as goal
 
-abbrev pub invariant-loop-left : goal.invariant-loop-left
-invariant-loop-left l = (l.left < 2 ^ 32) × (first_error (slot_in l.row) (set_bits l.mask) ≡ first_error (slot_in l.row) (set_bits l.left))
+abbrev pub invariant-search : goal.invariant-search
+invariant-search l = (l.left < 2 ^ 32) × (first_error (slot_in l.row) (set_bits l.mask) ≡ first_error (slot_in l.row) (set_bits l.left))
 
-abbrev pub decreases-loop-left : goal.decreases-loop-left
-decreases-loop-left l = l.left
+abbrev pub decreases-search : goal.decreases-search
+decreases-search l = l.left

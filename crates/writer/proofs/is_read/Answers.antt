@@ -1,10 +1,8 @@
--- `is_read` meets its contract: the reader's answer says whether the text is read.
-use mathlib.Core.Path.{sym, ◌∙◌}
-use Rattle.writer.proofs.LawsText.{loaded_read, refused_read}
+-- `is_read` meets its contract: the reader's answer is that of the definition.
+use Rattle.std.specs.Prelude.{is_ok}
+use mathlib.Core.Path.{ap, ◌∙◌}
+use Rattle.writer.proofs.LawsText.{read_answer}
 use Rattle.writer.proofs.is_read.Goals as goal
 
-pub returns-in-Loaded : goal.returns-in-Loaded
-returns-in-Loaded c = loaded_read _ (sym c.load-loading.ensures.answer ∙ c.in-Loaded.is)
-
-pub returns-in-Refused : goal.returns-in-Refused
-returns-in-Refused c = refused_read _ _ (sym c.load-loading.ensures.answer ∙ c.in-Refused.is)
+pub returns : goal.returns
+returns c = c.is_ok.ensures.value ∙ ap is_ok c.load.ensures.answer ∙ read_answer _

@@ -3,4 +3,4 @@ use Rattle.writer.proofs.LawsLoad.{load_exported}
 use Rattle.writer.proofs.itanropen_load.Goals as goal
 
 pub returns : goal.returns
-returns c = load_exported c.load_sheet-loading.ensures c.load_verdict_of.ensures
+returns c = load_exported c.load_sheet.ensures c.from.ensures

@@ -3,4 +3,4 @@ use Rattle.writer.proofs.LawsSheet.{exported}
 use Rattle.writer.proofs.itanropen_write.Goals as goal
 
 pub returns : goal.returns
-returns c = exported c.write_sheet-written.ensures c.verdict_of.ensures
+returns c = exported c.write_sheet.ensures c.from.ensures

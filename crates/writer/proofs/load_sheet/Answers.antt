@@ -5,8 +5,8 @@ use Rattle.writer.proofs.load_sheet.Goals as goal
 pub returns-then-words-lt-WORDS_SIZE : goal.returns-then-words-lt-WORDS_SIZE
 returns-then-words-lt-WORDS_SIZE c = refused_short _ _ c.if-words-lt-WORDS_SIZE.true
 
-pub returns-in-Loaded : goal.returns-in-Loaded
-returns-in-Loaded c = read_loaded c.if-words-lt-WORDS_SIZE.false c.load-loading.ensures c.in-Loaded.is
+pub returns-in-Err : goal.returns-in-Err
+returns-in-Err c = read_refused c.if-words-lt-WORDS_SIZE.false c.load.ensures _ _ c.in-Err.is c.clear.ensures
 
-pub returns-in-Refused : goal.returns-in-Refused
-returns-in-Refused c = read_refused c.if-words-lt-WORDS_SIZE.false c.load-loading.ensures _ _ c.in-Refused.is c.clear_words.ensures
+pub returns : goal.returns
+returns c = read_loaded c.if-words-lt-WORDS_SIZE.false c.load.ensures c.in_default.is
