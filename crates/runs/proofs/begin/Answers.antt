@@ -1,18 +1,7 @@
 -- `begin` meets its contract: every block as it begins, then the entry with its state and waiting alone, is the run's beginning;
 -- the sheet's words are kept, so the entry is still a block.
-use native.Mathlib.Omega.{arith}
-use Rattle.layout.specs.Layout.{blocks_word}
 use Rattle.runs.proofs.LawsBegin.{regs_are, begun}
 use Rattle.runs.proofs.begin.Goals as goal
-
-pub entry_state-requires : goal.entry_state-requires
-entry_state-requires c =
-    omega (arith, c.requires.0.loaded.bounds.regs, (regs_are c.args.words.now c.row_counts-counts.result c.row_counts-counts.ensures))
-
-pub enter-requires : goal.enter-requires
-enter-requires c =
-    let f = c.begin_blocks.ensures in
-    (f.1.sheet.ready, omega (arith, c.requires.0.loaded.bounds.entry, c.entry-entry.ensures, f.0.below blocks_word (omega arith)))
 
 pub returns : goal.returns
 returns c =
