@@ -133,6 +133,7 @@ impl From<Answer> for Verdict {
 
     ghost from_gives = { λ said verdict. verdict ≡ verdict_of said };
 
+    #[tactic(auto, unfolding(crate::specs::Checked::verdict_of))]
     fn from(said: Answer) -> Verdict {
         match said {
             Answer::Accepted(length) => Verdict {

@@ -5,17 +5,17 @@ use Rattle.checker.proofs.answer.Goals as goal
 
 pub write_faults-requires : goal.write_faults-requires
 write_faults-requires c =
-    let l = c.load-loading.ensures in
-    let e = c.in-Loaded.is in
+    let l = c.load.ensures in
+    let e = c.in-Ok.is in
     (loaded_words l e, few_steps l e, omega arith, omega (arith, l.same_length), omega arith)
 
-pub returns-in-Loaded : goal.returns-in-Loaded
-returns-in-Loaded c =
-    let l = c.load-loading.ensures in
-    let e = c.in-Loaded.is in
+pub returns-in-Ok : goal.returns-in-Ok
+returns-in-Ok c =
+    let l = c.load.ensures in
+    let e = c.in-Ok.is in
     answered_from c.write_faults.ensures (said_of_loaded l e c.args.rule) l.same_length
 
-pub returns-in-Refused : goal.returns-in-Refused
-returns-in-Refused c =
-    let l = c.load-loading.ensures in
-    refused_answer l c.args.rule c.in-Refused.is l.same_length
+pub returns-in-Err : goal.returns-in-Err
+returns-in-Err c =
+    let l = c.load.ensures in
+    refused_answer l c.args.rule c.in-Err.is l.same_length

@@ -12,4 +12,4 @@ answer-said-requires c = long _ _ _ _ (sym c.too_short.ensures ∙ c.if-too_shor
 
 pub returns : goal.returns
 returns c =
-    checked c.answer-said.ensures c.clear_words.ensures c.clear_bytes.ensures (sym c.too_short.ensures ∙ c.if-too_short.false)
+    checked c.answer-said.ensures c.clear.ensures c.clear-2.ensures (sym c.too_short.ensures ∙ c.if-too_short.false)

@@ -3,4 +3,4 @@ use Rattle.checker.proofs.Laws.{exported}
 use Rattle.checker.proofs.itanropen_check.Goals as goal
 
 pub returns : goal.returns
-returns c = exported c.check-said.ensures c.rule_of-chosen.ensures c.verdict_of.ensures
+returns c = exported c.check-said.ensures c.rule_of-chosen.ensures c.from.ensures

@@ -15,4 +15,4 @@ write_states-length-requires c = long _ _ _ _ (sym c.too_short.ensures ∙ c.if-
 pub returns : goal.returns
 returns c =
     let long = sym c.too_short.ensures ∙ c.if-too_short.false in
-    (stated c.write_states-length.ensures c.clear_words.ensures c.clear_bytes.ensures long, c.write_states-length.ensures.most)
+    (stated c.write_states-length.ensures c.clear.ensures c.clear-2.ensures long, c.write_states-length.ensures.most)

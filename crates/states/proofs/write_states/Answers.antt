@@ -6,27 +6,27 @@ use Rattle.states.proofs.LawsCall.{refused_none, text_full, text_missing, holds_
 use Rattle.states.proofs.write_states.Goals as goal
 
 pub returns-in_default : goal.returns-in_default
-returns-in_default c = let l = c.load-loading.ensures in
+returns-in_default c = let l = c.load.ensures in
     written_none (refused_none c.args.rule l c.in_default.is) l.same_length
 
 pub find_missing-requires : goal.find_missing-requires
-find_missing-requires c = loaded_words c.load-loading.ensures c.in-Loaded.is
+find_missing-requires c = loaded_words c.load.ensures c.in-Ok.is
 
 pub returns-in_default-find_missing : goal.returns-in_default-find_missing
-returns-in_default-find_missing c = let l = c.load-loading.ensures in
-    written_none (text_missing c.args.rule l c.in-Loaded.is c.find_missing.ensures c.in_default-find_missing.is) l.same_length
+returns-in_default-find_missing c = let l = c.load.ensures in
+    written_none (text_missing c.args.rule l c.in-Ok.is c.find_missing.ensures c.in_default-find_missing.is) l.same_length
 
 pub analyze-requires : goal.analyze-requires
-analyze-requires c = let l = c.load-loading.ensures in
-    (loaded_words l c.in-Loaded.is, nothing_missing c.find_missing.ensures c.in-None.is, omega (arith, l.same_length), omega arith)
+analyze-requires c = let l = c.load.ensures in
+    (loaded_words l c.in-Ok.is, nothing_missing c.find_missing.ensures c.in-None.is, omega (arith, l.same_length), omega arith)
 
 pub write_blocks-requires : goal.write_blocks-requires
-write_blocks-requires c = let l = c.load-loading.ensures in
+write_blocks-requires c = let l = c.load.ensures in
     let given = c.requires in
-    (holds_states (loaded_words l c.in-Loaded.is) c.analyze.ensures.0 (omega (arith, l.same_length, given.1)), omega (arith, given.0))
+    (holds_states (loaded_words l c.in-Ok.is) c.analyze.ensures.0 (omega (arith, l.same_length, given.1)), omega (arith, given.0))
 
 pub returns : goal.returns
-returns c = let l = c.load-loading.ensures in
-    let loads = loaded_words l c.in-Loaded.is in
+returns c = let l = c.load.ensures in
+    let loads = loaded_words l c.in-Ok.is in
     let full = nothing_missing c.find_missing.ensures c.in-None.is in
-    written_text (text_full c.args.rule l c.in-Loaded.is full) (rw (← same_text loads c.analyze.ensures.0) c.write_blocks.ensures.0) c.write_blocks.ensures.1 c.requires.0 (omega (arith, l.same_length, c.analyze.ensures.0.kept.same_length)) c.analyze.ensures.0.same_length
+    written_text (text_full c.args.rule l c.in-Ok.is full) (rw (← same_text loads c.analyze.ensures.0) c.write_blocks.ensures.0) c.write_blocks.ensures.1 c.requires.0 (omega (arith, l.same_length, c.analyze.ensures.0.kept.same_length)) c.analyze.ensures.0.same_length
