@@ -1,5 +1,9 @@
 -- A line field by field, the header, and the report line by line: what is left decides.
 use mathlib.Core.Path.{◌≡◌, refl, sym, ap, ◌∙◌}
+use Rattle.std.specs.Prelude as read
+use Rattle.std.specs.Prelude.{Some, None}
+use Rattle.compare.specs.declared.Shape as Field
+use Rattle.compare.specs.declared.Shape.TheVariants.{Number, Byte}
 use mathlib.Core.Bool.{Bool, true, false, cond, ◌&&◌, ◌||◌, true≢false, and-false}
 use mathlib.Core.List.{List, [], ◌∷◌}
 use mathlib.Core.Option.{Option, none, some}
@@ -18,62 +22,35 @@ use Rattle.paper.specs.Report.{letter_R, rule_text}
 use Rattle.fields.specs.Fields.{until, ends_line, ends_field, field_at, field_end, line_at, line_end, fields_behind, number_told, number_at}
 use Rattle.fields.specs.Cursor.{fields_at, fields_behind_tab, fields_behind_none, line_end_tab, line_end_none}
 use Rattle.fields.specs.Told.{number_says, number_refused, next_says, next_refused}
-use Rattle.fields.specs.declared.Number as Number_read
-use Rattle.fields.specs.declared.Number.TheVariants as number
-use Rattle.paper.specs.Comparison.{Shape, same_text, a_number, a_name, lettered, fits, fault_shape, fault_shapes, fault_shaped, unreached_shaped, past, a_rule, count_of, pieces, bad_from, bad_behind, bad_first, bad_line, parting, refused_or, compared}
-use Rattle.compare.specs.Places.{shape_of, shapes_of, codes_of_lines, place_told, field_place, behind_place, line_place, header_told, PlaceWithin}
-use Rattle.compare.specs.declared.Place.{Place}
-use Rattle.compare.specs.declared.Place.TheVariants.{At, Bad}
+use Rattle.paper.specs.Comparison.{Shape, same_text, fits, fault_shape, fault_shapes, fault_shaped, unreached_shaped, past, a_rule, count_of, pieces, bad_from, bad_behind, bad_first, bad_line, parting, refused_or, compared}
+use Rattle.compare.specs.Places.{shape_of, shapes_of, shapes_of_lines, place_told, field_place, behind_place, line_place, header_told, line_found}
 use Rattle.paper.specs.declared.Compared.{Compared}
 use Rattle.paper.specs.declared.Compared.TheVariants.{Malformed}
 use Rattle.compare.specs.Pieces.{pieces_none, pieces_some, not_empty}
 
 -- what a place tells
 
-abbrev Tells : ℕ → Bool → Place → Type 0
-Tells n good Bad = good ≡ false
-Tells n good (At place) = (good ≡ true) × (place ≡ n)
+abbrev Tells : ℕ → Bool → read.Option ℕ → Type 0
+Tells n good None = good ≡ false
+Tells n good (Some place) = (good ≡ true) × (place ≡ n)
 
 tells : (n : ℕ) (good : Bool) → Tells n good (place_told n good)
 unfolding place_told
 tells n true = (refl, refl)
 tells n false = refl
 
-told_at : (n : ℕ) (good : Bool) {place : ℕ} → At place ≡ place_told n good → (good ≡ true) × (place ≡ n)
+told_at : (n : ℕ) (good : Bool) {place : ℕ} → Some place ≡ place_told n good → (good ≡ true) × (place ≡ n)
 told_at n good e = rw (sym e) at (tells n good)
 
-told_none : (n : ℕ) (good : Bool) → Bad ≡ place_told n good → good ≡ false
+told_none : (n : ℕ) (good : Bool) → None ≡ place_told n good → good ≡ false
 told_none n good e = rw (sym e) at (tells n good)
 
-place_bad : (n : ℕ) {good : Bool} → good ≡ false → Bad ≡ place_told n good
+place_bad : (n : ℕ) {good : Bool} → good ≡ false → None ≡ place_told n good
 unfolding place_told
 place_bad n e = rw e
 
--- codes
-
-module _ (code : ℕ) where
-  pub code_number : code ≡ 0 → shape_of code ≡ a_number
-  unfolding shape_of
-  code_number e = rw e
-
-  pub code_name : code ≡ 1 → shape_of code ≡ a_name
-  unfolding shape_of
-  code_name e = rw e
-
-  pub code_register : code ≡ 2 → shape_of code ≡ lettered 114
-  unfolding shape_of
-  code_register e = rw e
-
-  pub code_slot : code ≡ 3 → shape_of code ≡ lettered 115
-  unfolding shape_of
-  code_slot e = rw e
-
-  pub code_byte : (code ≡ 0 → ⊥) → (code ≡ 1 → ⊥) → (code ≡ 2 → ⊥) → (code ≡ 3 → ⊥) → shape_of code ≡ same_text (code ∷ [])
-  unfolding shape_of
-  code_byte a b c d = rw (ne_eqb code 0 a, ne_eqb code 1 b, ne_eqb code 2 c, ne_eqb code 3 d)
-
-pub same_place : (s : Bytes) (at : ℕ) {f g : Shape} → g ≡ f → {p : Place} → p ≡ field_place f s at → p ≡ field_place g s at
-same_place s at e q = rw e q
+pub same_place : (s : Bytes) (at : ℕ) {a b : Field.Shape} → a ≡ b → field_place (shape_of a) s at ≡ field_place (shape_of b) s at
+same_place s at e = ap (λ x. field_place (shape_of x) s at) e
 
 pub letter_r_inner : ends_field 114 ≡ false
 unfolding ends_field
@@ -86,17 +63,13 @@ letter_s_inner = refl
 -- a field behind a tab
 
 module _ (shape : Shape) (s : Bytes) (at : ℕ) where
-  pub behind_none : (get_or s at 0 ≡ tab → ⊥) → Bad ≡ behind_place shape s at
+  pub behind_none : (get_or s at 0 ≡ tab → ⊥) → None ≡ behind_place shape s at
   unfolding behind_place place_told
   behind_none d = rw (ne_eqb (get_or s at 0) tab d)
 
-  pub behind_tab : get_or s at 0 ≡ tab → {p : Place} → p ≡ field_place shape s (at + 1) → p ≡ behind_place shape s at
+  pub behind_tab : {next : ℕ} → next ≡ at + 1 → get_or s at 0 ≡ tab → {p : read.Option ℕ} → p ≡ field_place shape s next → p ≡ behind_place shape s at
   unfolding behind_place field_place
-  behind_tab e q = q ∙ rw (eq-eqb (get_or s at 0) tab e)
-
-pub within_before : (s : Bytes) (at : ℕ) (p : Place) → PlaceWithin s (at + 1) p → PlaceWithin s at p
-within_before s at Bad w = tt
-within_before s at (At next) w = (omega (arith, w.0), w.1)
+  behind_tab is e q = rw is at q ∙ rw (eq-eqb (get_or s at 0) tab e)
 
 -- a rule's name is one of two texts
 
@@ -107,11 +80,11 @@ module _ (s : Bytes) (at : ℕ) where
   abbrev house : Bytes
   house = 104 ∷ 111 ∷ 117 ∷ 115 ∷ 101 ∷ []
 
-  pub old_place : {place : ℕ} → At place ≡ field_place (same_text old) s at → At place ≡ field_place a_rule s at
+  pub old_place : {place : ℕ} → Some place ≡ field_place (same_text old) s at → Some place ≡ field_place a_rule s at
   unfolding field_place a_rule rule_text place_told
   old_place e = let t = told_at (field_end s at) (same_text old (field_at s at)) e in rw (t.0, t.1)
 
-  pub house_place : Bad ≡ field_place (same_text old) s at → {p : Place} → p ≡ field_place (same_text house) s at → p ≡ field_place a_rule s at
+  pub house_place : None ≡ field_place (same_text old) s at → {p : read.Option ℕ} → p ≡ field_place (same_text house) s at → p ≡ field_place a_rule s at
   unfolding field_place a_rule rule_text
   house_place e q = q ∙ rw (told_none (field_end s at) (same_text old (field_at s at)) e)
 
@@ -141,73 +114,73 @@ tab_fields s next e = fields_behind_tab s next e ∙ fields_at s (next + 1)
 
 -- a field of a shape behind a place, and none
 module _ (shape : Shape) (s : Bytes) (at : ℕ) where
-  behind_told : {place : ℕ} → At place ≡ behind_place shape s at → (get_or s at 0 ≡ tab) × (shape (field_at s (at + 1)) ≡ true) × (place ≡ field_end s (at + 1))
+  behind_told : {place : ℕ} → Some place ≡ behind_place shape s at → (get_or s at 0 ≡ tab) × (shape (field_at s (at + 1)) ≡ true) × (place ≡ field_end s (at + 1))
   unfolding behind_place
   behind_told e =
       let t = told_at (field_end s (at + 1)) (eqb (get_or s at 0) tab && shape (field_at s (at + 1))) e in
       (eqb-true (get_or s at 0) tab (and_left _ _ t.0), and_right (eqb (get_or s at 0) tab) (shape (field_at s (at + 1))) t.0, t.1)
 
-  behind_untold : Bad ≡ behind_place shape s at → (eqb (get_or s at 0) tab && shape (field_at s (at + 1))) ≡ false
+  behind_untold : None ≡ behind_place shape s at → (eqb (get_or s at 0) tab && shape (field_at s (at + 1))) ≡ false
   unfolding behind_place
   behind_untold e = told_none (field_end s (at + 1)) (eqb (get_or s at 0) tab && shape (field_at s (at + 1))) e
 
 -- a line's shapes, field by field
 
-pub record Lining (s : Bytes) (at : ℕ) (codes : List ℕ) (i place : ℕ) : Type 0 where
+pub record Lining (s : Bytes) (at : ℕ) (codes : List Field.Shape) (i place : ℕ) : Type 0 where
   pub inside : i ≤ length codes
   pub within : place ≤ length s
   pub further : at ≤ place
   pub left : fits (shapes_of codes) (fields (line_at s at)) ≡ fits (shapes_of (drop i codes)) (fields_behind s place)
   pub closes : end_behind s place ≡ line_end s at
 
-pub line_misfit : (s : Bytes) (at : ℕ) (codes : List ℕ) → 0 < length codes → Bad ≡ field_place (shape_of (get_or codes 0 0)) s at
-    → Bad ≡ line_place (fits (shapes_of codes) (fields (line_at s at))) s at
+pub line_misfit : (s : Bytes) (at : ℕ) (codes : List Field.Shape) → 0 < length codes → None ≡ field_place (shape_of (get_or codes 0 Number)) s at
+    → None ≡ line_place (fits (shapes_of codes) (fields (line_at s at))) s at
 unfolding fits field_place line_place
 line_misfit s at [] h e = absurd (omega arith)
 line_misfit s at (c ∷ cs) h e =
     place_bad (line_end s at) (rw (fields_at s at, told_none (field_end s at) (shape_of c (field_at s at)) e))
 
-pub lining_first : (s : Bytes) (at : ℕ) (codes : List ℕ) {place : ℕ} → 0 < length codes → at ≤ place → place ≤ length s
-    → At place ≡ field_place (shape_of (get_or codes 0 0)) s at → Lining s at codes 1 place
+pub lining_first : (s : Bytes) (at : ℕ) (codes : List Field.Shape) {place : ℕ} → 0 < length codes → at ≤ place → place ≤ length s
+    → Some place ≡ field_place (shape_of (get_or codes 0 Number)) s at → Lining s at codes 1 place
 unfolding fits field_place
 lining_first s at [] h a b e = absurd (omega arith)
 lining_first s at (c ∷ cs) h a b e =
     let t = told_at (field_end s at) (shape_of c (field_at s at)) e in
     record { inside = omega arith; within = b; further = a; left = rw (fields_at s at, t.0, t.1); closes = rw t.1 (end_field s at) }
 
-module _ {s : Bytes} {at : ℕ} {codes : List ℕ} {i place : ℕ} (w : Lining s at codes i place) where
+module _ {s : Bytes} {at : ℕ} {codes : List Field.Shape} {i place : ℕ} (w : Lining s at codes i place) where
   module _ (m : i < length codes) where
-    pub lining_bad : Bad ≡ behind_place (shape_of (get_or codes i 0)) s place → Bad ≡ line_place (fits (shapes_of codes) (fields (line_at s at))) s at
+    pub lining_bad : None ≡ behind_place (shape_of (get_or codes i Number)) s place → None ≡ line_place (fits (shapes_of codes) (fields (line_at s at))) s at
     unfolding line_place fits
     lining_bad e =
-        let x : Shape = shape_of (get_or codes i 0) in
+        let x : Shape = shape_of (get_or codes i Number) in
         let f : (eqb (get_or s place 0) tab && x (field_at s (place + 1))) ≡ false = behind_untold x s place e in
         place_bad (line_end s at)
-        (rw (w.left, drop-cons codes i 0 m)
+        (rw (w.left, drop-cons codes i Number m)
         (by_test (eqb (get_or s place 0) tab)
         (λ y. rw (tab_fields s place (eqb-true (get_or s place 0) tab y), rw y at f))
         λ y. rw (fields_behind_none s place (eqb-false (get_or s place 0) tab y))))
 
-    pub lining_more : {further : ℕ} → place ≤ further → further ≤ length s → At further ≡ behind_place (shape_of (get_or codes i 0)) s place → Lining s at codes (i + 1) further
+    pub lining_more : {further : ℕ} → place ≤ further → further ≤ length s → Some further ≡ behind_place (shape_of (get_or codes i Number)) s place → Lining s at codes (i + 1) further
     unfolding fits
     lining_more a b e =
-        let t = behind_told (shape_of (get_or codes i 0)) s place e in record {
+        let t = behind_told (shape_of (get_or codes i Number)) s place e in record {
           inside = omega arith;
           within = b;
           further = omega (arith, w.further);
-          left = w.left ∙ rw (drop-cons codes i 0 m, tab_fields s place t.0, t.1, t.2, add-one i);
+          left = w.left ∙ rw (drop-cons codes i Number m, tab_fields s place t.0, t.1, t.2, add-one i);
           closes = rw t.2 (end_field s (place + 1)) ∙ sym (end_tab s place t.0) ∙ w.closes;
         }
 
   module _ (m : length codes ≤ i) where
-    pub line_closed : get_or s place 0 ≡ line_feed → At place ≡ line_place (fits (shapes_of codes) (fields (line_at s at))) s at
+    pub line_closed : get_or s place 0 ≡ line_feed → Some place ≡ line_place (fits (shapes_of codes) (fields (line_at s at))) s at
     unfolding fits line_place place_told empty
     line_closed e =
         let d : get_or s place 0 ≡ tab → ⊥ = λ q. omega arith in
         let z : line_end s at ≡ place = sym w.closes ∙ end_none s place d in
         rw (w.left, drop_of_length-le codes m, fields_behind_none s place d, z, e)
 
-    pub line_open : (get_or s place 0 ≡ line_feed → ⊥) → Bad ≡ line_place (fits (shapes_of codes) (fields (line_at s at))) s at
+    pub line_open : (get_or s place 0 ≡ line_feed → ⊥) → None ≡ line_place (fits (shapes_of codes) (fields (line_at s at))) s at
     unfolding fits line_place empty
     line_open d =
         place_bad (line_end s at)
@@ -220,31 +193,31 @@ module _ {s : Bytes} {at : ℕ} {codes : List ℕ} {i place : ℕ} (w : Lining s
 
 -- one of the lines' shapes
 
-abbrev fits_row : Bytes → ℕ → List ℕ → Bool
+abbrev fits_row : Bytes → ℕ → List Field.Shape → Bool
 fits_row s at codes = fits (shapes_of codes) (fields (line_at s at))
 
-unfoldable pub any_row : Bytes → ℕ → List (List ℕ) → Bool
+unfoldable pub any_row : Bytes → ℕ → List (List Field.Shape) → Bool
 any_row s at [] = false
 any_row s at (codes ∷ rows) = fits_row s at codes || any_row s at rows
 
-all_rows : (s : Bytes) (at : ℕ) → any_row s at codes_of_lines ≡ fault_shaped (line_at s at)
-unfolding any_row codes_of_lines fault_shaped any fault_shapes fault_shape shape_of digits digit_from
+all_rows : (s : Bytes) (at : ℕ) → any_row s at shapes_of_lines ≡ fault_shaped (line_at s at)
+unfolding any_row shapes_of_lines fault_shaped any fault_shapes fault_shape shape_of digits digit_from
 all_rows s at = refl
 
 -- the rows from k on decide
 pub record Rowing (s : Bytes) (at k : ℕ) : Type 0 where
   pub few : k ≤ 7
-  pub left : line_place (fault_shaped (line_at s at)) s at ≡ line_place (any_row s at (drop k codes_of_lines)) s at
+  pub left : line_place (fault_shaped (line_at s at)) s at ≡ line_place (any_row s at (drop k shapes_of_lines)) s at
 
 pub rowing_first : (s : Bytes) (at : ℕ) → Rowing s at 0
 rowing_first s at = record { few = omega arith; left = ap (λ (good : Bool). line_place good s at) (sym (all_rows s at)) }
 
-seven : length codes_of_lines ≡ 7
-unfolding codes_of_lines
+seven : length shapes_of_lines ≡ 7
+unfolding shapes_of_lines
 seven = refl
 
-pub eight : (k : ℕ) → k < 7 → length (get_or codes_of_lines k []) ≡ 8
-unfolding codes_of_lines
+pub eight : (k : ℕ) → k < 7 → length (get_or shapes_of_lines k []) ≡ 8
+unfolding shapes_of_lines
 eight zero h = refl
 eight (suc zero) h = refl
 eight (suc (suc zero)) h = refl
@@ -267,32 +240,32 @@ taken false y feed e = absurd (true≢false (sym e))
 
 module _ {s : Bytes} {at k : ℕ} (w : Rowing s at k) where
   module _ (h : k < 7) where
-    here : drop k codes_of_lines ≡ get_or codes_of_lines k [] ∷ drop (suc k) codes_of_lines
-    here = drop-cons codes_of_lines k [] (omega (arith, seven))
+    here : drop k shapes_of_lines ≡ get_or shapes_of_lines k [] ∷ drop (suc k) shapes_of_lines
+    here = drop-cons shapes_of_lines k [] (omega (arith, seven))
 
-    pub row_good : {place : ℕ} → At place ≡ line_place (fits_row s at (get_or codes_of_lines k [])) s at
-        → At place ≡ line_place (fault_shaped (line_at s at)) s at
+    pub row_good : {place : ℕ} → Some place ≡ line_place (fits_row s at (get_or shapes_of_lines k [])) s at
+        → Some place ≡ line_place (fault_shaped (line_at s at)) s at
     unfolding line_place place_told any_row
     row_good e =
         let feed : Bool = eqb (get_or s (line_end s at) 0) line_feed in
-        let t = told_at (line_end s at) (fits_row s at (get_or codes_of_lines k []) && feed) e in
-        rw (w.left, here, taken (fits_row s at (get_or codes_of_lines k [])) (any_row s at (drop (suc k) codes_of_lines)) feed t.0, t.1)
+        let t = told_at (line_end s at) (fits_row s at (get_or shapes_of_lines k []) && feed) e in
+        rw (w.left, here, taken (fits_row s at (get_or shapes_of_lines k [])) (any_row s at (drop (suc k) shapes_of_lines)) feed t.0, t.1)
 
-    pub row_bad : Bad ≡ line_place (fits_row s at (get_or codes_of_lines k [])) s at → Rowing s at (k + 1)
+    pub row_bad : None ≡ line_place (fits_row s at (get_or shapes_of_lines k [])) s at → Rowing s at (k + 1)
     unfolding line_place any_row
     row_bad e =
         let feed : Bool = eqb (get_or s (line_end s at) 0) line_feed in
-        let t = told_none (line_end s at) (fits_row s at (get_or codes_of_lines k []) && feed) e in
-        record { few = omega arith; left = w.left ∙ rw (here, skipped (fits_row s at (get_or codes_of_lines k [])) (any_row s at (drop (suc k) codes_of_lines)) feed t, add-one k) }
+        let t = told_none (line_end s at) (fits_row s at (get_or shapes_of_lines k []) && feed) e in
+        record { few = omega arith; left = w.left ∙ rw (here, skipped (fits_row s at (get_or shapes_of_lines k [])) (any_row s at (drop (suc k) shapes_of_lines)) feed t, add-one k) }
 
-  pub no_row : 7 ≤ k → Bad ≡ line_place (fault_shaped (line_at s at)) s at
+  pub no_row : 7 ≤ k → None ≡ line_place (fault_shaped (line_at s at)) s at
   unfolding line_place place_told any_row
   no_row h =
-      let all : length codes_of_lines ≤ k = omega (arith, seven) in
-      rw (w.left, drop_of_length-le codes_of_lines all)
+      let all : length shapes_of_lines ≤ k = omega (arith, seven) in
+      rw (w.left, drop_of_length-le shapes_of_lines all)
 
 -- the line of an unreached block
-pub unreached_codes : (s : Bytes) (at : ℕ) → fits (shapes_of (78 ∷ 0 ∷ [])) (fields (line_at s at)) ≡ unreached_shaped (line_at s at)
+pub unreached_codes : (s : Bytes) (at : ℕ) → fits (shapes_of (Byte 78 ∷ Number ∷ [])) (fields (line_at s at)) ≡ unreached_shaped (line_at s at)
 unfolding unreached_shaped shape_of
 unreached_codes s at = refl
 
@@ -308,23 +281,23 @@ pub record Heading (s : Bytes) (f : List Bytes → Option ℕ) (place : ℕ) : T
   pub left : count_of (fields (line_at s 0)) ≡ f (fields_behind s place)
   pub closes : end_behind s place ≡ line_end s 0
 
-header_none : (s : Bytes) → count_of (fields (line_at s 0)) ≡ none → number.Bad ≡ header_told s
+header_none : (s : Bytes) → count_of (fields (line_at s 0)) ≡ none → None ≡ header_told s
 unfolding header_told number_told
 header_none s e = by_test (eqb (get_or s (line_end s 0) 0) line_feed) (λ y. rw (y, e)) λ y. rw y
 
 module _ (s : Bytes) where
-  pub letter_none : Bad ≡ field_place (same_text (letter_R ∷ [])) s 0 → number.Bad ≡ header_told s
+  pub letter_none : None ≡ field_place (same_text (letter_R ∷ [])) s 0 → None ≡ header_told s
   unfolding count_of past field_place
   letter_none e = header_none s (rw (fields_at s 0, told_none (field_end s 0) (same_text (letter_R ∷ []) (field_at s 0)) e))
 
-  pub letter_there : {place : ℕ} → At place ≡ field_place (same_text (letter_R ∷ [])) s 0 → Heading s from_rule place
+  pub letter_there : {place : ℕ} → Some place ≡ field_place (same_text (letter_R ∷ [])) s 0 → Heading s from_rule place
   unfolding count_of past field_place
   letter_there e =
       let t = told_at (field_end s 0) (same_text (letter_R ∷ []) (field_at s 0)) e in
       record { left = rw (fields_at s 0, t.0, t.1); closes = rw t.1 (end_field s 0) }
 
   module _ {place : ℕ} (w : Heading s from_rule place) where
-    pub rule_none : Bad ≡ behind_place a_rule s place → number.Bad ≡ header_told s
+    pub rule_none : None ≡ behind_place a_rule s place → None ≡ header_told s
     unfolding past
     rule_none e =
         let f : (eqb (get_or s place 0) tab && a_rule (field_at s (place + 1))) ≡ false = behind_untold a_rule s place e in
@@ -333,7 +306,7 @@ module _ (s : Bytes) where
         (λ y. rw (tab_fields s place (eqb-true (get_or s place 0) tab y), rw y at f))
         λ y. rw (fields_behind_none s place (eqb-false (get_or s place 0) tab y)))
 
-    pub rule_there : {further : ℕ} → At further ≡ behind_place a_rule s place → Heading s from_count further
+    pub rule_there : {further : ℕ} → Some further ≡ behind_place a_rule s place → Heading s from_count further
     unfolding past
     rule_there e =
         let t = behind_told a_rule s place e in record {
@@ -342,29 +315,32 @@ module _ (s : Bytes) where
         }
 
   module _ {place : ℕ} (w : Heading s from_count place) where
-    pub no_count : (get_or s place 0 ≡ tab → ⊥) → number.Bad ≡ header_told s
+    pub no_count : (get_or s place 0 ≡ tab → ⊥) → None ≡ header_told s
     unfolding next
     no_count d = header_none s (w.left ∙ rw (fields_behind_none s place d))
 
-    module _ (t : get_or s place 0 ≡ tab) where
-      pub count_none : number_at s (place + 1) ≡ number.Bad → number.Bad ≡ header_told s
-      count_none e = header_none s (w.left ∙ rw (fields_behind_tab s place t, next_refused (number_refused e)))
+    module _ {start : ℕ} (is : start ≡ place + 1) (t : get_or s place 0 ≡ tab) where
+      pub count_none : number_at s start ≡ None → None ≡ header_told s
+      count_none e = header_none s (w.left ∙ rw (fields_behind_tab s place t, ← is, next_refused (number_refused e)))
 
-      module _ {v after : ℕ} (e : number_at s (place + 1) ≡ number.Value v after) where
+      module _ {v after : ℕ} (told : number_at s start ≡ Some (v, after)) where
+        e : number_at s (place + 1) ≡ Some (v, after)
+        e = rw is at told
+
         counted : count_of (fields (line_at s 0)) ≡ ended (fields_behind s after) v
         counted = w.left ∙ rw (fields_behind_tab s place t, next_says (number_says e))
 
         count_closes : end_behind s after ≡ line_end s 0
         count_closes = rw (number_says e).place (end_field s (place + 1)) ∙ sym (end_tab s place t) ∙ w.closes
 
-        pub header_good : get_or s after 0 ≡ line_feed → number.Value v after ≡ header_told s
+        pub header_good : get_or s after 0 ≡ line_feed → Some (v, after) ≡ header_told s
         unfolding header_told number_told ended
         header_good q =
             let d : get_or s after 0 ≡ tab → ⊥ = λ z. omega arith in
             let z : line_end s 0 ≡ after = sym count_closes ∙ end_none s after d in
             rw (counted, fields_behind_none s after d, z, q)
 
-        pub header_open : (get_or s after 0 ≡ line_feed → ⊥) → number.Bad ≡ header_told s
+        pub header_open : (get_or s after 0 ≡ line_feed → ⊥) → None ≡ header_told s
         unfolding header_told number_told ended
         header_open d =
             by_test (eqb (get_or s after 0) tab)
@@ -409,13 +385,14 @@ shape_bad false y e q = refl
 -- the lines from `at` on decide, behind so many faults
 pub record Judging (s : Bytes) (count faults line at : ℕ) : Type 0 where
   pub within : at ≤ length s
+  pub some_line : 0 < line
   pub few : line ≤ at + 1
   pub fewer : faults ≤ at
   pub left : bad_line s ≡ bad_from count faults line (pieces (drop at s))
 
-abbrev HeaderTells : Bytes → Number_read.Number → Type 0
-HeaderTells s number.Bad = cond (feed s 0) (count_of (fields (line_at s 0))) none ≡ none
-HeaderTells s (number.Value count place) = (cond (feed s 0) (count_of (fields (line_at s 0))) none ≡ some count) × (place ≡ line_end s 0)
+abbrev HeaderTells : Bytes → read.Option (ℕ × ℕ) → Type 0
+HeaderTells s None = cond (feed s 0) (count_of (fields (line_at s 0))) none ≡ none
+HeaderTells s (Some x) = (cond (feed s 0) (count_of (fields (line_at s 0))) none ≡ some x.0) × (x.1 ≡ line_end s 0)
 
 header_tells : (s : Bytes) → HeaderTells s (header_told s)
 unfolding header_told number_told
@@ -430,7 +407,7 @@ module _ (s : Bytes) where
   unfolding bad_line
   whole = ap bad_first (pieces_at s 0)
 
-  pub header_refused : number.Bad ≡ header_told s → 1 ≡ bad_line s
+  pub header_refused : None ≡ header_told s → 1 ≡ bad_line s
   unfolding bad_first bad_behind empty
   header_refused e =
       let t : cond (feed s 0) (count_of (fields (line_at s 0))) none ≡ none = rw (sym e) at (header_tells s) in
@@ -438,13 +415,14 @@ module _ (s : Bytes) where
       (λ y. rw (whole, y, not_empty (pieces (drop (line_end s 0 + 1) s)) (pieces_some (drop (line_end s 0 + 1) s)), rw y at t))
       λ y. rw (whole, y)
 
-  pub judging_first : {count place : ℕ} → place < length s → number.Value count place ≡ header_told s → Judging s count 0 2 (place + 1)
+  pub judging_first : {count place : ℕ} → place < length s → Some (count, place) ≡ header_told s → Judging s count 0 2 (place + 1)
   unfolding bad_first bad_behind
   judging_first {count} {place} h e =
       let t : (cond (feed s 0) (count_of (fields (line_at s 0))) none ≡ some count) × (place ≡ line_end s 0) = rw (sym e) at (header_tells s) in
       by_test (feed s 0)
       (λ y. record {
         within = omega arith;
+        some_line = omega arith;
         few = omega arith;
         fewer = omega arith;
         left = rw (whole, y, not_empty (pieces (drop (line_end s 0 + 1) s)) (pieces_some (drop (line_end s 0 + 1) s)), rw y at t.0, t.1);
@@ -463,7 +441,7 @@ module _ {s : Bytes} {count faults line at : ℕ} (w : Judging s count faults li
     later : empty (pieces (drop (line_end s at + 1) s)) ≡ false
     later = not_empty (pieces (drop (line_end s at + 1) s)) (pieces_some (drop (line_end s at + 1) s))
 
-    pub fault_good : {place : ℕ} → at ≤ place → place < length s → At place ≡ line_place is_fault s at → Judging s count (faults + 1) (line + 1) (place + 1)
+    pub fault_good : {place : ℕ} → at ≤ place → place < length s → Some place ≡ line_place is_fault s at → Judging s count (faults + 1) (line + 1) (place + 1)
     unfolding bad_from line_place
     fault_good {place} a b e =
         let t = told_at (line_end s at) (is_fault && feed s at) e in
@@ -471,17 +449,18 @@ module _ {s : Bytes} {count faults line at : ℕ} (w : Judging s count faults li
         let x : is_fault ≡ true = and_left _ _ t.0 in
         record {
           within = omega arith;
+          some_line = omega arith;
           few = omega (arith, w.few);
           fewer = omega (arith, w.fewer);
           left = w.left ∙ rw (pieces_at s at, y, later, x, t.1, add-one line, add-one faults);
         }
 
-    module _ (no_fault : Bad ≡ line_place is_fault s at) where
+    module _ (no_fault : None ≡ line_place is_fault s at) where
       not_closed : (is_fault && feed s at) ≡ false
       unfolding line_place
       not_closed = told_none (line_end s at) (is_fault && feed s at) no_fault
 
-      pub line_bad : Bad ≡ line_place is_unreached s at → line ≡ bad_line s
+      pub line_bad : None ≡ line_place is_unreached s at → line ≡ bad_line s
       unfolding bad_from line_place empty
       line_bad e =
           let t : (is_unreached && feed s at) ≡ false = told_none (line_end s at) (is_unreached && feed s at) e in
@@ -489,7 +468,7 @@ module _ {s : Bytes} {count faults line at : ℕ} (w : Judging s count faults li
           (λ y. rw (w.left, pieces_at s at, y, later, shape_bad is_fault (feed s at) not_closed y, shape_bad is_unreached (feed s at) t y))
           λ y. rw (w.left, pieces_at s at, y, line_some s at h y)
 
-      pub unreached_good : {place : ℕ} → at ≤ place → place < length s → At place ≡ line_place is_unreached s at → Judging s count faults (line + 1) (place + 1)
+      pub unreached_good : {place : ℕ} → at ≤ place → place < length s → Some place ≡ line_place is_unreached s at → Judging s count faults (line + 1) (place + 1)
       unfolding bad_from line_place
       unreached_good {place} a b e =
           let t = told_at (line_end s at) (is_unreached && feed s at) e in
@@ -497,6 +476,7 @@ module _ {s : Bytes} {count faults line at : ℕ} (w : Judging s count faults li
           let x : is_unreached ≡ true = and_left _ _ t.0 in
           record {
             within = omega arith;
+            some_line = omega arith;
             few = omega (arith, w.few);
             fewer = omega (arith, w.fewer);
             left = w.left ∙ rw (pieces_at s at, y, later, shape_bad is_fault (feed s at) not_closed y, x, t.1, add-one line);
@@ -513,6 +493,20 @@ module _ {s : Bytes} {count faults line at : ℕ} (w : Judging s count faults li
     pub count_wrong : (count ≡ faults → ⊥) → 1 ≡ bad_line s
     unfolding bad_from empty
     count_wrong d = rw (w.left, over, ne_eqb count faults d)
+
+-- a line's number, where there is one
+
+pub found_line : (n : ℕ) → 0 < n → Some n ≡ line_found n
+found_line zero h = absurd (omega arith)
+found_line (suc n) h = refl
+
+pub line_is : (n : ℕ) {line : ℕ} → Some line ≡ line_found n → (line ≡ n) × (line ≡ 0 → ⊥)
+line_is zero e = absurd (let z : ◌≡◌ {A = ℕ} 0 1 = cc e in omega arith)
+line_is (suc n) {line} e = let q : line ≡ suc n = cc e in (q, λ z. omega (arith, q, z))
+
+pub line_none : (n : ℕ) → None ≡ line_found n → n ≡ 0
+line_none zero e = refl
+line_none (suc n) e = absurd (let z : ◌≡◌ {A = ℕ} 0 1 = cc e in omega arith)
 
 -- two reports
 

@@ -1,15 +1,16 @@
--- What is written of two reports: a text byte by byte, and the whole at the start of the room.
+-- What is written of two reports: a text behind the line, and the whole at the start of the room.
 use mathlib.Core.Path.{◌≡◌, refl, sym, ◌∙◌}
 use mathlib.Core.Bool.{Bool, true, false, ◌||◌}
-use mathlib.Core.List.{List, [], ◌∷◌, ◌++◌}
-use Prim.Native.Nat.{ℕ, suc, ◌+◌, ◌≤◌, ◌<◌}
-use native.Mathlib.Numerals.{add-one}
+use mathlib.Core.List.{List, ◌++◌}
+use Prim.Native.Nat.{ℕ, ◌+◌, ◌≤◌, ◌<◌}
 use native.Mathlib.Omega.{arith}
+use Rattle.std.proofs.Common.{append_assoc}
 use borrow.Author.Tests.{lt-ltb, le-ltb, ltb-false}
-use lib.ListN.{length, get_or, set, take, drop, length-drop, length-set}
+use lib.ListN.{length, take, drop, length-drop}
 use lib.Dec.{ltb}
-use lib.Seq.{take-suc, take-length, sets-eq}
-use Rattle.lists.specs.Sets.{Wrote, then, length_wrote}
+use lib.Seq.{drop-drop, sets-eq}
+use borrow.Rule.Slice.PartMut.{put_mid}
+use Rattle.lists.specs.Sets.{Wrote, length_wrote}
 use Rattle.lists.specs.Split.{by_test, or_left, or_right}
 use Rattle.paper.specs.Text.{Bytes}
 use Rattle.paper.specs.Answer.{laid}
@@ -17,26 +18,12 @@ use Rattle.paper.specs.Comparison.{compared, longer, rest_of}
 use Rattle.paper.specs.declared.Compared.{Compared}
 use Rattle.compare.specs.Written.{said_text, compared_text, longest_report, longest_text, no_room, text_left, Told}
 
--- the first i bytes of a text stand at a place of the room
-pub record Writing (l : List ℕ) (at : ℕ) (text : Bytes) (i : ℕ) (l' : List ℕ) : Type 0 where
-  pub inside : i ≤ length text
-  pub same_length : length l' ≡ length l
-  pub wrote : Wrote l at (take i text) l' (at + i)
-
-pub writing_first : (l : List ℕ) (at : ℕ) (text : Bytes) → Writing l at text 0 l
-writing_first l at text = record { inside = omega arith; same_length = refl; wrote = record { list = refl; next = omega arith } }
-
-module _ {l l' : List ℕ} {at i : ℕ} {text : Bytes} (w : Writing l at text i l') where
-  pub writing_more : i < length text → Writing l at text (i + 1) (set l' (at + i) (get_or text i 0))
-  writing_more h =
-      let one : Wrote l' (at + i) (get_or text i 0 ∷ []) (set l' (at + i) (get_or text i 0)) (at + suc i) = record { list = refl; next = omega arith } in
-      record { inside = omega arith; same_length = length-set l' (at + i) (get_or text i 0) ∙ w.same_length; wrote = rw (add-one i, take-suc text i 0 h) (then w.wrote one) }
-
-  pub writing_all : length text ≤ i → Wrote l at text l' (at + i)
-  writing_all h =
-      let e : i ≡ length text = omega (arith, w.inside) in
-      let all : take i text ≡ text = rw e (take-length text) in
-      rw all at w.wrote
+-- a text that was copied to a part of the room as long as it
+pub copied : (l text part : List ℕ) (at n : ℕ) → part ≡ text → n ≡ length text → at + length text ≤ length l → Wrote l at text (put_mid at n l part) (at + length text)
+copied l text part at n is size h = record {
+  list = rw (is, size, sets-eq text l at h, drop-drop (length text) at l) (sym (append_assoc (take at l) text (drop (at + length text) l)));
+  next = refl;
+}
 
 -- room
 

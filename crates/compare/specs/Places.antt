@@ -1,74 +1,82 @@
--- Lines and fields at a place of a report, and the codes by which the code's table says a field's shape.
-use Rattle.std.specs.Prelude.{Bool, true, false, cond, ◌&&◌, List, [], ◌∷◌, map, ℕ, ◌+◌, ◌≤◌, ◌<◌, eqb, ltb, length, get_or, drop, ◌≡◌}
+-- Lines and fields at a place of a report, and the shapes that the code's table says of their fields.
+use Rattle.std.specs.Prelude.{Option, None, Some, Bool, true, false, cond, ◌&&◌, List, [], ◌∷◌, map, ℕ, ◌+◌, ◌≤◌, ◌<◌, zero, suc, eqb, ltb, length, get_or, drop, ◌≡◌}
 use Rattle.std.proofs.Math.Option.{none}
 use Rattle.std.specs.Borrow.{Bor}
 use Rattle.paper.specs.Text.{Bytes, tab, line_feed, fields, letter_r}
 use Rattle.paper.specs.Report.{letter_s}
 use Rattle.fields.specs.Fields.{field_at, field_end, line_at, line_end, number_told}
-use Rattle.fields.specs.declared.Number.{Number}
-use Rattle.fields.specs.declared.Number.TheVariants as number
 use Rattle.paper.specs.Comparison.{Shape, same_text, a_number, a_name, lettered, count_of, compared, longer, rest_place, rest_of}
-use Rattle.compare.specs.declared.Place.{Place}
-use Rattle.compare.specs.declared.Place.TheVariants.{At, Bad}
+use Rattle.compare.specs.declared.Shape as Field
+use Rattle.compare.specs.declared.Shape.TheVariants.{Number, Name, Register, Slot, Byte}
 use Rattle.paper.specs.declared.Compared.{Compared}
 use Rattle.paper.specs.declared.Compared.TheVariants.{Equal, Parts, Malformed}
 use Rattle.compare.specs.declared.Judgement.{Judgement}
 
--- a field's shape by its code: a number, a name, `rN`, `sN`; any other code is a byte that stands there alone
-unfoldable pub shape_of : ℕ → Shape
-shape_of code =
-    cond (eqb code 0) a_number
-    (cond (eqb code 1) a_name
-    (cond (eqb code 2) (lettered letter_r)
-    (cond (eqb code 3) (lettered letter_s) (same_text (code ∷ [])))))
+-- what each is to the definitions: a number, a name, `rN`, `sN`, a byte alone
+unfoldable pub shape_of : Field.Shape → Shape
+shape_of Number = a_number
+shape_of Name = a_name
+shape_of Register = lettered letter_r
+shape_of Slot = lettered letter_s
+shape_of (Byte b) = same_text (b ∷ [])
 
-abbrev pub shapes_of : List ℕ → List Shape
-shapes_of codes = map shape_of codes
+abbrev pub shapes_of : List Field.Shape → List Shape
+shapes_of shapes = map shape_of shapes
 
--- a fault's lines, by their fields' codes
-unfoldable pub codes_of_lines : List (List ℕ)
-codes_of_lines =
-    (69 ∷ 0 ∷ 0 ∷ 0 ∷ 49 ∷ 45 ∷ 1 ∷ 45 ∷ [])
-    ∷ (69 ∷ 0 ∷ 0 ∷ 0 ∷ 50 ∷ 2 ∷ 45 ∷ 45 ∷ [])
-    ∷ (69 ∷ 0 ∷ 0 ∷ 0 ∷ 51 ∷ 2 ∷ 1 ∷ 1 ∷ [])
-    ∷ (69 ∷ 0 ∷ 0 ∷ 0 ∷ 52 ∷ 3 ∷ 1 ∷ 45 ∷ [])
-    ∷ (69 ∷ 0 ∷ 0 ∷ 0 ∷ 53 ∷ 3 ∷ 1 ∷ 1 ∷ [])
-    ∷ (69 ∷ 0 ∷ 0 ∷ 0 ∷ 54 ∷ 3 ∷ 45 ∷ 45 ∷ [])
-    ∷ (69 ∷ 0 ∷ 0 ∷ 0 ∷ 55 ∷ 3 ∷ 45 ∷ 45 ∷ [])
+-- a fault's lines, by their fields' shapes
+unfoldable pub shapes_of_lines : List (List Field.Shape)
+shapes_of_lines =
+    (Byte 69 ∷ Number ∷ Number ∷ Number ∷ Byte 49 ∷ Byte 45 ∷ Name ∷ Byte 45 ∷ [])
+    ∷ (Byte 69 ∷ Number ∷ Number ∷ Number ∷ Byte 50 ∷ Register ∷ Byte 45 ∷ Byte 45 ∷ [])
+    ∷ (Byte 69 ∷ Number ∷ Number ∷ Number ∷ Byte 51 ∷ Register ∷ Name ∷ Name ∷ [])
+    ∷ (Byte 69 ∷ Number ∷ Number ∷ Number ∷ Byte 52 ∷ Slot ∷ Name ∷ Byte 45 ∷ [])
+    ∷ (Byte 69 ∷ Number ∷ Number ∷ Number ∷ Byte 53 ∷ Slot ∷ Name ∷ Name ∷ [])
+    ∷ (Byte 69 ∷ Number ∷ Number ∷ Number ∷ Byte 54 ∷ Slot ∷ Byte 45 ∷ Byte 45 ∷ [])
+    ∷ (Byte 69 ∷ Number ∷ Number ∷ Number ∷ Byte 55 ∷ Slot ∷ Byte 45 ∷ Byte 45 ∷ [])
     ∷ []
 
-unfoldable pub place_told : ℕ → Bool → Place
-place_told next true = At next
-place_told next false = Bad
+unfoldable pub place_told : ℕ → Bool → Option ℕ
+place_told next true = Some next
+place_told next false = None
 
 -- the place behind the field at `at`, where it has the shape
-unfoldable pub field_place : Shape → Bytes → ℕ → Place
+unfoldable pub field_place : Shape → Bytes → ℕ → Option ℕ
 field_place shape s at = place_told (field_end s at) (shape (field_at s at))
 
 -- the place behind the field that stands behind a tab at `at`
-unfoldable pub behind_place : Shape → Bytes → ℕ → Place
+unfoldable pub behind_place : Shape → Bytes → ℕ → Option ℕ
 behind_place shape s at = place_told (field_end s (at + 1)) (eqb (get_or s at 0) tab && shape (field_at s (at + 1)))
 
 -- the place of the line feed that closes the line at `at`, where the line is good
-unfoldable pub line_place : Bool → Bytes → ℕ → Place
+unfoldable pub line_place : Bool → Bytes → ℕ → Option ℕ
 line_place good s at = place_told (line_end s at) (good && eqb (get_or s (line_end s at) 0) line_feed)
 
 -- the count that the header says, and the place of its line feed
-unfoldable pub header_told : Bytes → Number
+unfoldable pub header_told : Bytes → Option (ℕ × ℕ)
 header_told s = number_told (line_end s 0) (cond (eqb (get_or s (line_end s 0) 0) line_feed) (count_of (fields (line_at s 0))) none)
 
+-- a tab stands at `at` and its place is told, or none does
+abbrev pub TabTold : Bytes → ℕ → Option ℕ → Type 0
+TabTold s at None = get_or s at 0 ≡ tab → ⊥
+TabTold s at (Some next) = (next ≡ at + 1) × (at < length s) × (get_or s at 0 ≡ tab)
+
+-- the definitions' number of a line, which is 0 where there is none
+abbrev pub line_found : ℕ → Option ℕ
+line_found zero = None
+line_found (suc n) = Some (suc n)
+
 -- a place behind a field is inside the report, that of a line feed too
-abbrev pub PlaceWithin : Bytes → ℕ → Place → Type 0
-PlaceWithin s at Bad = Unit {0}
-PlaceWithin s at (At next) = (at ≤ next) × (next ≤ length s)
+abbrev pub PlaceWithin : Bytes → ℕ → Option ℕ → Type 0
+PlaceWithin s at None = Unit {0}
+PlaceWithin s at (Some next) = (at ≤ next) × (next ≤ length s)
 
-abbrev pub LineWithin : Bytes → ℕ → Place → Type 0
-LineWithin s at Bad = Unit {0}
-LineWithin s at (At next) = (at ≤ next) × (next < length s)
+abbrev pub LineWithin : Bytes → ℕ → Option ℕ → Type 0
+LineWithin s at None = Unit {0}
+LineWithin s at (Some next) = (at ≤ next) × (next < length s)
 
-abbrev pub HeaderWithin : Bytes → Number → Type 0
-HeaderWithin s number.Bad = Unit {0}
-HeaderWithin s (number.Value count next) = next < length s
+abbrev pub HeaderWithin : Bytes → Option (ℕ × ℕ) → Type 0
+HeaderWithin s None = Unit {0}
+HeaderWithin s (Some x) = x.1 < length s
 
 -- where two reports part is inside both, and a line is one of theirs or the next
 abbrev pub ComparedWithin : Bytes → Bytes → Compared → Type 0

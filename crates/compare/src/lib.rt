@@ -2,23 +2,17 @@
 
 #![tactic(auto)]
 
-ghost use Rattle.std.specs.Prelude.{◌≡◌, false, ◌+◌, ◌≤◌, ◌<◌, length, [], ◌∷◌};
+ghost use Rattle.std.specs.Prelude.{◌≡◌, false, IfSome, ◌+◌, ◌≤◌, ◌<◌, length, [], ◌∷◌};
 ghost use Rattle.paper.specs.Text.{fields};
 ghost use Rattle.fields.specs.Fields.{ends_field, line_at};
 ghost use Rattle.paper.specs.Comparison.{same_text, a_number, a_name, a_rule, lettered, fits, fault_shaped, unreached_shaped, bad_line, parting, pieces, compared, longer, rest_place};
-ghost use Rattle.compare.specs.Places.{shape_of, shapes_of, field_place, behind_place, line_place, header_told, PlaceWithin, LineWithin, HeaderWithin, ComparedWithin, PartOf, Handed, judgement_of};
+ghost use Rattle.compare.specs.Places.{shape_of, shapes_of, field_place, behind_place, line_place, header_told, line_found, TabTold, PlaceWithin, LineWithin, HeaderWithin, ComparedWithin, PartOf, Handed, judgement_of};
 ghost use Rattle.lists.specs.Sets.{Wrote};
 ghost use Rattle.compare.specs.Written.{parted_text, malformed_text, compared_text, longest_text, no_room, Told};
 
-use fields::{End, Name, Number};
+use Shape::{Byte, Name, Number, Register, Slot};
+use fields::End;
 use paper::Compared;
-
-// A place of a report behind what was read, or that something else stands there.
-#[derive(Clone, Copy)]
-pub enum Place {
-    At(usize),
-    Bad,
-}
 
 // What two reports come to, over the C interface: 0 equal, 1 they part, 2 malformed.
 #[repr(C)]
@@ -30,14 +24,15 @@ pub struct Judgement {
     pub place: usize,
 }
 
-// A field's shape by a code: a number, a name, a register, a slot; any other code is a byte that stands there alone.
-const NUMBER: u8 = 0;
-
-const NAME: u8 = 1;
-
-const REGISTER: u8 = 2;
-
-const SLOT: u8 = 3;
+// What a field must be: a number, a name, a register, a slot, or a byte that stands there alone.
+#[derive(Clone, Copy)]
+enum Shape {
+    Number,
+    Name,
+    Register,
+    Slot,
+    Byte(u8),
+}
 
 // The longest report that is compared as text, and the room for what is written of two.
 const LONGEST_REPORT: usize = 1048576;
@@ -49,240 +44,270 @@ const FIELDS: usize = 8;
 const KINDS: usize = 7;
 
 // The lines of faults, one for each kind.
-const SHAPES: [[u8; FIELDS]; KINDS] = [
-    [b'E', NUMBER, NUMBER, NUMBER, b'1', b'-', NAME, b'-'],
-    [b'E', NUMBER, NUMBER, NUMBER, b'2', REGISTER, b'-', b'-'],
-    [b'E', NUMBER, NUMBER, NUMBER, b'3', REGISTER, NAME, NAME],
-    [b'E', NUMBER, NUMBER, NUMBER, b'4', SLOT, NAME, b'-'],
-    [b'E', NUMBER, NUMBER, NUMBER, b'5', SLOT, NAME, NAME],
-    [b'E', NUMBER, NUMBER, NUMBER, b'6', SLOT, b'-', b'-'],
-    [b'E', NUMBER, NUMBER, NUMBER, b'7', SLOT, b'-', b'-'],
+const SHAPES: [[Shape; FIELDS]; KINDS] = [
+    [
+        Byte(b'E'),
+        Number,
+        Number,
+        Number,
+        Byte(b'1'),
+        Byte(b'-'),
+        Name,
+        Byte(b'-'),
+    ],
+    [
+        Byte(b'E'),
+        Number,
+        Number,
+        Number,
+        Byte(b'2'),
+        Register,
+        Byte(b'-'),
+        Byte(b'-'),
+    ],
+    [
+        Byte(b'E'),
+        Number,
+        Number,
+        Number,
+        Byte(b'3'),
+        Register,
+        Name,
+        Name,
+    ],
+    [
+        Byte(b'E'),
+        Number,
+        Number,
+        Number,
+        Byte(b'4'),
+        Slot,
+        Name,
+        Byte(b'-'),
+    ],
+    [
+        Byte(b'E'),
+        Number,
+        Number,
+        Number,
+        Byte(b'5'),
+        Slot,
+        Name,
+        Name,
+    ],
+    [
+        Byte(b'E'),
+        Number,
+        Number,
+        Number,
+        Byte(b'6'),
+        Slot,
+        Byte(b'-'),
+        Byte(b'-'),
+    ],
+    [
+        Byte(b'E'),
+        Number,
+        Number,
+        Number,
+        Byte(b'7'),
+        Slot,
+        Byte(b'-'),
+        Byte(b'-'),
+    ],
 ];
 
 // A field that is this text.
-fn text_at(s: &[u8], at: usize, text: &[u8]) -> Place
+fn text_at(s: &[u8], at: usize, text: &[u8]) -> Option<usize>
     requires { at ≤ length s.now }
     ensures value { result ≡ field_place (same_text text.now) s.now at }
     ensures within { PlaceWithin s.now at result }
 {
-    let mut i: usize = 0;
     let mut next = at;
-    while i < text.len() {
-        let End::Neither = fields::ends(s, next) else {
-            return Place::Bad;
-        };
+    for i in 0..text.len() {
+        if fields::ends(s, next).is_some() {
+            return None;
+        }
         if s.len() <= next {
-            return Place::Bad;
+            return None;
         }
         if s[next] != text[i] {
-            return Place::Bad;
+            return None;
         }
-        i += 1;
         next += 1;
     }
-    if s.len() <= next {
-        return Place::At(next);
+    if next < s.len() {
+        fields::ends(s, next)?;
     }
-    match fields::ends(s, next) {
-        End::Neither => Place::Bad,
-        _ => Place::At(next),
-    }
+    Some(next)
 }
 
 // A field that is a number of document 01.
-fn number_at(s: &[u8], at: usize) -> Place
+fn number_at(s: &[u8], at: usize) -> Option<usize>
     ensures value { result ≡ field_place a_number s.now at }
     ensures within { PlaceWithin s.now at result }
 {
-    let Number::Value(v, next) = fields::read_number(s, at) else {
-        return Place::Bad;
-    };
-    Place::At(next)
+    let (_, next) = fields::read_number(s, at)?;
+    Some(next)
 }
 
 // A field that is a name.
-fn name_at(s: &[u8], at: usize) -> Place
+fn name_at(s: &[u8], at: usize) -> Option<usize>
     ensures value { result ≡ field_place a_name s.now at }
     ensures within { PlaceWithin s.now at result }
 {
-    let Name::Value(real, n, next) = fields::read_name(s, at) else {
-        return Place::Bad;
-    };
-    Place::At(next)
+    let (_, next) = fields::read_name(s, at)?;
+    Some(next)
 }
 
 // A field that is this letter and a number behind it.
-fn lettered_at(s: &[u8], at: usize, letter: u8) -> Place
+fn lettered_at(s: &[u8], at: usize, letter: u8) -> Option<usize>
     requires { ends_field letter ≡ false }
     ensures value { result ≡ field_place (lettered letter) s.now at }
     ensures within { PlaceWithin s.now at result }
 {
     if s.len() <= at {
-        return Place::Bad;
+        return None;
     }
     if s[at] != letter {
-        return Place::Bad;
+        return None;
     }
-    let Number::Value(v, next) = fields::read_number(s, at + 1) else {
-        return Place::Bad;
-    };
-    Place::At(next)
+    let (_, next) = fields::read_number(s, at + 1)?;
+    Some(next)
 }
 
-// A field of the shape that a code says.
-fn field_at(s: &[u8], at: usize, code: u8) -> Place
+// A field of this shape.
+fn field_at(s: &[u8], at: usize, shape: Shape) -> Option<usize>
     requires { at ≤ length s.now }
-    ensures value { result ≡ field_place (shape_of code) s.now at }
+    ensures value { result ≡ field_place (shape_of shape) s.now at }
     ensures within { PlaceWithin s.now at result }
 {
-    if code == NUMBER {
-        return number_at(s, at);
+    match shape {
+        Number => number_at(s, at),
+        Name => name_at(s, at),
+        Register => lettered_at(s, at, b'r'),
+        Slot => lettered_at(s, at, b's'),
+        Byte(b) => text_at(s, at, &[b]),
     }
-    if code == NAME {
-        return name_at(s, at);
-    }
-    if code == REGISTER {
-        return lettered_at(s, at, b'r');
-    }
-    if code == SLOT {
-        return lettered_at(s, at, b's');
-    }
-    let one = [code];
-    text_at(s, at, &one)
 }
 
-// The same behind a tab at `at`.
-fn field_behind(s: &[u8], at: usize, code: u8) -> Place
+// The place behind a tab at `at`.
+fn behind_tab(s: &[u8], at: usize) -> Option<usize>
+    ensures { TabTold s.now at result }
+{
+    match fields::ends(s, at)? {
+        End::Tab => Some(at + 1),
+        End::LineFeed => None,
+    }
+}
+
+// A field of this shape behind a tab at `at`.
+fn field_behind(s: &[u8], at: usize, shape: Shape) -> Option<usize>
     requires { at ≤ length s.now }
-    ensures value { result ≡ behind_place (shape_of code) s.now at }
+    ensures value { result ≡ behind_place (shape_of shape) s.now at }
     ensures within { PlaceWithin s.now at result }
 {
-    let End::Tab = fields::ends(s, at) else {
-        return Place::Bad;
-    };
-    field_at(s, at + 1, code)
+    let next = behind_tab(s, at)?;
+    field_at(s, next, shape)
 }
 
-// A line whose fields have the shapes that these codes say: the place of its line feed.
-fn line_of(s: &[u8], at: usize, codes: &[u8]) -> Place
-    requires { (at ≤ length s.now) × (0 < length codes.now) }
-    ensures value { result ≡ line_place (fits (shapes_of codes.now) (fields (line_at s.now at))) s.now at }
+// A line whose fields have these shapes: the place of its line feed.
+fn line_of(s: &[u8], at: usize, shapes: &[Shape]) -> Option<usize>
+    requires { (at ≤ length s.now) × (0 < length shapes.now) }
+    ensures value { result ≡ line_place (fits (shapes_of shapes.now) (fields (line_at s.now at))) s.now at }
     ensures within { LineWithin s.now at result }
 {
-    let Place::At(first) = field_at(s, at, codes[0]) else {
-        return Place::Bad;
-    };
-    let mut next = first;
-    let mut i: usize = 1;
-    while i < codes.len() {
-        let Place::At(further) = field_behind(s, next, codes[i]) else {
-            return Place::Bad;
-        };
-        next = further;
-        i += 1;
+    let mut next = field_at(s, at, shapes[0])?;
+    for i in 1..shapes.len() {
+        next = field_behind(s, next, shapes[i])?;
     }
-    match fields::ends(s, next) {
-        End::LineFeed => Place::At(next),
-        _ => Place::Bad,
+    match fields::ends(s, next)? {
+        End::LineFeed => Some(next),
+        End::Tab => None,
     }
 }
 
 // A fault's line: the place of its line feed.
-fn line_at(s: &[u8], at: usize) -> Place
+fn line_at(s: &[u8], at: usize) -> Option<usize>
     requires { at ≤ length s.now }
     ensures value { result ≡ line_place (fault_shaped (line_at s.now at)) s.now at }
     ensures within { LineWithin s.now at result }
 {
-    let mut k: usize = 0;
-    while k < KINDS {
-        let codes = SHAPES[k];
-        let place = line_of(s, at, &codes);
-        if let Place::At(next) = place {
-            return Place::At(next);
+    for k in 0..KINDS {
+        let shapes = SHAPES[k];
+        if let Some(next) = line_of(s, at, &shapes) {
+            return Some(next);
         }
-        k += 1;
     }
-    Place::Bad
+    None
 }
 
 // An unreached block's line: the place of its line feed.
-fn unreached_at(s: &[u8], at: usize) -> Place
+fn unreached_at(s: &[u8], at: usize) -> Option<usize>
     requires { at ≤ length s.now }
     ensures value { result ≡ line_place (unreached_shaped (line_at s.now at)) s.now at }
     ensures within { LineWithin s.now at result }
 {
-    let codes = [b'N', NUMBER];
-    line_of(s, at, &codes)
+    line_of(s, at, &[Byte(b'N'), Number])
 }
 
 // A rule's name behind a tab at `at`.
-fn rule_behind(s: &[u8], at: usize) -> Place
+fn rule_behind(s: &[u8], at: usize) -> Option<usize>
     requires { at ≤ length s.now }
     ensures value { result ≡ behind_place a_rule s.now at }
     ensures within { PlaceWithin s.now at result }
 {
-    let End::Tab = fields::ends(s, at) else {
-        return Place::Bad;
-    };
-    let old = [b'o', b'l', b'd'];
-    let place = text_at(s, at + 1, &old);
-    if let Place::At(next) = place {
-        return Place::At(next);
+    let start = behind_tab(s, at)?;
+    if let Some(next) = text_at(s, start, b"old") {
+        return Some(next);
     }
-    let house = [b'h', b'o', b'u', b's', b'e'];
-    text_at(s, at + 1, &house)
+    text_at(s, start, b"house")
 }
 
 // The header: the count that it says, and the place of its line feed.
-fn header(s: &[u8]) -> Number
+fn header(s: &[u8]) -> Option<(u32, usize)>
     ensures value { result ≡ header_told s.now }
     ensures within { HeaderWithin s.now result }
 {
-    let letter = [b'R'];
-    let Place::At(first) = text_at(s, 0, &letter) else {
-        return Number::Bad;
-    };
-    let Place::At(rule) = rule_behind(s, first) else {
-        return Number::Bad;
-    };
-    let End::Tab = fields::ends(s, rule) else {
-        return Number::Bad;
-    };
-    let Number::Value(count, next) = fields::read_number(s, rule + 1) else {
-        return Number::Bad;
-    };
-    let End::LineFeed = fields::ends(s, next) else {
-        return Number::Bad;
-    };
-    Number::Value(count, next)
+    let letter = text_at(s, 0, b"R")?;
+    let rule = rule_behind(s, letter)?;
+    let start = behind_tab(s, rule)?;
+    let (count, next) = fields::read_number(s, start)?;
+    match fields::ends(s, next)? {
+        End::LineFeed => Some((count, next)),
+        End::Tab => None,
+    }
 }
 
-// The first bad line of a report, from 1; 0 where it is well formed.
-fn bad_line(s: &[u8]) -> usize
-    ensures value { result ≡ bad_line s.now }
-    ensures within { result ≤ length s.now + 1 }
+// The first bad line of a report, from 1, if there is one.
+fn bad_line(s: &[u8]) -> Option<usize>
+    ensures value { result ≡ line_found (bad_line s.now) }
+    ensures within { IfSome result (λ line. line ≤ length s.now + 1) }
 {
-    let Number::Value(count, end) = header(s) else {
-        return 1;
+    let Some((count, end)) = header(s) else {
+        return Some(1);
     };
     let mut at = end + 1;
     let mut faults: usize = 0;
     let mut line: usize = 2;
     while at < s.len() {
-        let place = line_at(s, at);
-        if let Place::At(next) = place {
+        if let Some(next) = line_at(s, at) {
             at = next + 1;
             faults += 1;
             line += 1;
             continue;
         }
-        let Place::At(next) = unreached_at(s, at) else {
-            return line;
+        let Some(next) = unreached_at(s, at) else {
+            return Some(line);
         };
         at = next + 1;
         line += 1;
     }
-    if count as usize == faults { 0 } else { 1 }
+    if count as usize == faults {
+        None
+    } else {
+        Some(1)
+    }
 }
 
 // Where two texts part: the line, and the place of its first byte.
@@ -292,8 +317,7 @@ fn part(first: &[u8], second: &[u8]) -> Compared
 {
     let mut line: usize = 1;
     let mut place: usize = 0;
-    let mut at: usize = 0;
-    while at < first.len() {
+    for at in 0..first.len() {
         if second.len() <= at {
             return Compared::Parts { line, place };
         }
@@ -301,13 +325,12 @@ fn part(first: &[u8], second: &[u8]) -> Compared
         if b != second[at] {
             return Compared::Parts { line, place };
         }
-        at += 1;
         if b == b'\n' {
             line += 1;
-            place = at;
+            place = at + 1;
         }
     }
-    if at < second.len() {
+    if first.len() < second.len() {
         return Compared::Parts { line, place };
     }
     Compared::Equal
@@ -318,16 +341,11 @@ pub fn compare(first: &[u8], second: &[u8]) -> Compared
     ensures value { result ≡ compared first.now second.now }
     ensures within { ComparedWithin first.now second.now result }
 {
-    let bad = bad_line(first);
-    if bad != 0 {
-        return Compared::Malformed { side: 1, line: bad };
+    if let Some(line) = bad_line(first) {
+        return Compared::Malformed { side: 1, line };
     }
-    let worse = bad_line(second);
-    if worse != 0 {
-        return Compared::Malformed {
-            side: 2,
-            line: worse,
-        };
+    if let Some(line) = bad_line(second) {
+        return Compared::Malformed { side: 2, line };
     }
     part(first, second)
 }
@@ -420,12 +438,9 @@ fn write_text(out: &mut [u8], at: usize, text: &[u8]) -> usize
     requires { at + length text.now ≤ length out.old }
     ensures { Wrote out.old at text.now out.new result }
 {
-    let mut i: usize = 0;
-    while i < text.len() {
-        out[at + i] = text[i];
-        i += 1;
-    }
-    at + i
+    let end = at + text.len();
+    out[at..end].copy_from_slice(text);
+    end
 }
 
 // Is a report too long, or the room for the text too short?

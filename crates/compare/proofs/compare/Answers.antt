@@ -1,17 +1,15 @@
 -- `compare` meets its contract: the first report, the second, and where they part.
-use native.Mathlib.Omega.{arith}
-use Rattle.compare.proofs.LawsLine.{first_bad, second_bad, both_good}
+use mathlib.Core.Path.{refl}
+use Rattle.compare.proofs.LawsLine.{first_bad, second_bad, both_good, line_is, line_none}
 use Rattle.compare.proofs.compare.Goals as goal
 
-pub returns-then-bad-ne0 : goal.returns-then-bad-ne0
-returns-then-bad-ne0 c =
-    let b = c.bad_line-bad.ensures in
-    record { value = first_bad _ _ b.value c.if-bad-ne0.true; within = (omega arith, omega (arith, b.within)) }
+pub returns-in-Some-clause-value : goal.returns-in-Some-clause-value
+returns-in-Some-clause-value c = let f = line_is _ c.in-Some.ensures.value in first_bad _ _ f.0 f.1
 
-pub returns-then-worse-ne0 : goal.returns-then-worse-ne0
-returns-then-worse-ne0 c =
-    let b = c.bad_line-worse.ensures in
-    record { value = second_bad _ _ c.bad_line-bad.ensures.value c.if-bad-ne0.false b.value c.if-worse-ne0.true; within = (omega arith, omega (arith, b.within)) }
+pub returns-in-Some-bad_line-clause-value : goal.returns-in-Some-bad_line-clause-value
+returns-in-Some-bad_line-clause-value c =
+    let f = line_is _ c.in-Some-bad_line.ensures.value in
+    second_bad _ _ refl (line_none _ c.in_default.ensures.value) f.0 f.1
 
-pub returns : goal.returns
-returns c = record { value = both_good _ _ c.bad_line-bad.ensures.value c.if-bad-ne0.false c.bad_line-worse.ensures.value c.if-worse-ne0.false c.part.ensures.value; within = c.part.ensures.within }
+pub returns-clause-value : goal.returns-clause-value
+returns-clause-value c = both_good _ _ refl (line_none _ c.in_default.ensures.value) refl (line_none _ c.in_default-bad_line.ensures.value) c.part.ensures.value

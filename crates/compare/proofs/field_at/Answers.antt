@@ -1,26 +1,31 @@
--- `field_at` meets its contract: each code has the shape that its function reads.
-use Rattle.compare.proofs.LawsLine.{code_number, code_name, code_register, code_slot, code_byte, same_place, letter_r_inner, letter_s_inner}
+-- `field_at` meets its contract: each shape has the function that reads it.
+use mathlib.Core.Path.{sym, ◌∙◌}
+use Rattle.compare.specs.Places.{shape_of}
+use Rattle.compare.proofs.LawsLine.{same_place, letter_r_inner, letter_s_inner}
 use Rattle.compare.proofs.field_at.Goals as goal
-
-pub returns-then-code-eq-NUMBER : goal.returns-then-code-eq-NUMBER
-returns-then-code-eq-NUMBER c = let a = c.number_at.ensures in record { value = same_place _ _ (code_number _ c.if-code-eq-NUMBER.true) a.value; within = a.within }
-
-pub returns-then-code-eq-NAME : goal.returns-then-code-eq-NAME
-returns-then-code-eq-NAME c = let a = c.name_at.ensures in record { value = same_place _ _ (code_name _ c.if-code-eq-NAME.true) a.value; within = a.within }
 
 pub lettered_at-requires : goal.lettered_at-requires
 lettered_at-requires c = letter_r_inner
 
-pub returns-then-code-eq-REGISTER : goal.returns-then-code-eq-REGISTER
-returns-then-code-eq-REGISTER c = let a = c.lettered_at.ensures in record { value = same_place _ _ (code_register _ c.if-code-eq-REGISTER.true) a.value; within = a.within }
+pub lettered_at-requires-in-Slot : goal.lettered_at-requires-in-Slot
+lettered_at-requires-in-Slot c = letter_s_inner
 
-pub lettered_at-requires-then-code-eq-SLOT : goal.lettered_at-requires-then-code-eq-SLOT
-lettered_at-requires-then-code-eq-SLOT c = letter_s_inner
+pub returns-in-Number-clause-value : goal.returns-in-Number-clause-value
+unfolding shape_of
+returns-in-Number-clause-value c = c.number_at.ensures.value ∙ same_place _ _ (sym c.in-Number.is)
 
-pub returns-then-code-eq-SLOT : goal.returns-then-code-eq-SLOT
-returns-then-code-eq-SLOT c = let a = c.lettered_at-then-code-eq-SLOT.ensures in record { value = same_place _ _ (code_slot _ c.if-code-eq-SLOT.true) a.value; within = a.within }
+pub returns-in-Name-clause-value : goal.returns-in-Name-clause-value
+unfolding shape_of
+returns-in-Name-clause-value c = c.name_at.ensures.value ∙ same_place _ _ (sym c.in-Name.is)
 
-pub returns : goal.returns
-returns c =
-    let a = c.text_at.ensures in
-    record { value = same_place _ _ (code_byte _ c.if-code-eq-NUMBER.false c.if-code-eq-NAME.false c.if-code-eq-REGISTER.false c.if-code-eq-SLOT.false) a.value; within = a.within }
+pub returns-in-Register-clause-value : goal.returns-in-Register-clause-value
+unfolding shape_of
+returns-in-Register-clause-value c = c.lettered_at.ensures.value ∙ same_place _ _ (sym c.in-Register.is)
+
+pub returns-in-Slot-clause-value : goal.returns-in-Slot-clause-value
+unfolding shape_of
+returns-in-Slot-clause-value c = c.lettered_at-in-Slot.ensures.value ∙ same_place _ _ (sym c.in-Slot.is)
+
+pub returns-in-Byte-clause-value : goal.returns-in-Byte-clause-value
+unfolding shape_of
+returns-in-Byte-clause-value c = c.text_at.ensures.value ∙ same_place _ _ (sym c.in-Byte.is)

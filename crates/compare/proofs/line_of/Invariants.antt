@@ -5,7 +5,7 @@ use Rattle.compare.proofs.LawsLine.{Lining}
 use Rattle.compare.proofs.line_of.Given as goal
 
 abbrev pub invariant-loop-i : goal.invariant-loop-i
-invariant-loop-i l = Lining l.s l.at l.codes l.i l.next
+invariant-loop-i l = Lining l.s l.at l.shapes l.i l.next
 
 abbrev pub decreases-loop-i : goal.decreases-loop-i
-decreases-loop-i l = length l.codes - l.i
+decreases-loop-i l = length l.shapes - l.i
