@@ -43,78 +43,20 @@ const FIELDS: usize = 8;
 
 const KINDS: usize = 7;
 
+// The letter of a fault's line, and what stands where it has no name.
+const E: Shape = Byte(b'E');
+
+const NONE: Shape = Byte(b'-');
+
 // The lines of faults, one for each kind.
 const SHAPES: [[Shape; FIELDS]; KINDS] = [
-    [
-        Byte(b'E'),
-        Number,
-        Number,
-        Number,
-        Byte(b'1'),
-        Byte(b'-'),
-        Name,
-        Byte(b'-'),
-    ],
-    [
-        Byte(b'E'),
-        Number,
-        Number,
-        Number,
-        Byte(b'2'),
-        Register,
-        Byte(b'-'),
-        Byte(b'-'),
-    ],
-    [
-        Byte(b'E'),
-        Number,
-        Number,
-        Number,
-        Byte(b'3'),
-        Register,
-        Name,
-        Name,
-    ],
-    [
-        Byte(b'E'),
-        Number,
-        Number,
-        Number,
-        Byte(b'4'),
-        Slot,
-        Name,
-        Byte(b'-'),
-    ],
-    [
-        Byte(b'E'),
-        Number,
-        Number,
-        Number,
-        Byte(b'5'),
-        Slot,
-        Name,
-        Name,
-    ],
-    [
-        Byte(b'E'),
-        Number,
-        Number,
-        Number,
-        Byte(b'6'),
-        Slot,
-        Byte(b'-'),
-        Byte(b'-'),
-    ],
-    [
-        Byte(b'E'),
-        Number,
-        Number,
-        Number,
-        Byte(b'7'),
-        Slot,
-        Byte(b'-'),
-        Byte(b'-'),
-    ],
+    [E, Number, Number, Number, Byte(b'1'), NONE, Name, NONE],
+    [E, Number, Number, Number, Byte(b'2'), Register, NONE, NONE],
+    [E, Number, Number, Number, Byte(b'3'), Register, Name, Name],
+    [E, Number, Number, Number, Byte(b'4'), Slot, Name, NONE],
+    [E, Number, Number, Number, Byte(b'5'), Slot, Name, Name],
+    [E, Number, Number, Number, Byte(b'6'), Slot, NONE, NONE],
+    [E, Number, Number, Number, Byte(b'7'), Slot, NONE, NONE],
 ];
 
 // A field that is this text.
@@ -124,14 +66,14 @@ fn text_at(s: &[u8], at: usize, text: &[u8]) -> Option<usize>
     ensures within { PlaceWithin s.now at result }
 {
     let mut next = at;
-    for i in 0..text.len() {
+    for &b in text {
         if fields::ends(s, next).is_some() {
             return None;
         }
         if s.len() <= next {
             return None;
         }
-        if s[next] != text[i] {
+        if s[next] != b {
             return None;
         }
         next += 1;
@@ -233,9 +175,8 @@ fn line_at(s: &[u8], at: usize) -> Option<usize>
     ensures value { result ≡ line_place (fault_shaped (line_at s.now at)) s.now at }
     ensures within { LineWithin s.now at result }
 {
-    for k in 0..KINDS {
-        let shapes = SHAPES[k];
-        if let Some(next) = line_of(s, at, &shapes) {
+    for shapes in &SHAPES {
+        if let Some(next) = line_of(s, at, shapes) {
             return Some(next);
         }
     }
@@ -317,11 +258,10 @@ fn part(first: &[u8], second: &[u8]) -> Compared
 {
     let mut line: usize = 1;
     let mut place: usize = 0;
-    for at in 0..first.len() {
+    for (at, &b) in first.iter().enumerate() {
         if second.len() <= at {
             return Compared::Parts { line, place };
         }
-        let b = first[at];
         if b != second[at] {
             return Compared::Parts { line, place };
         }
@@ -330,10 +270,11 @@ fn part(first: &[u8], second: &[u8]) -> Compared
             place = at + 1;
         }
     }
-    if first.len() < second.len() {
-        return Compared::Parts { line, place };
+    if second.len() == first.len() {
+        Compared::Equal
+    } else {
+        Compared::Parts { line, place }
     }
-    Compared::Equal
 }
 
 // Compares two reports.

@@ -1,10 +1,6 @@
--- `line_at` meets its contract: before each turn the shapes from k on decide (`Rowing`).
-use Prim.Native.Nat.{◌-◌}
+-- `line_at` meets its contract: before each turn the rows that are left decide (`Rowing`).
 use Rattle.compare.proofs.LawsLine.{Rowing}
 use Rattle.compare.proofs.line_at.Given as goal
 
-abbrev pub invariant-loop-k : goal.invariant-loop-k
-invariant-loop-k l = Rowing l.s l.at l.k
-
-abbrev pub decreases-loop-k : goal.decreases-loop-k
-decreases-loop-k l = 7 - l.k
+abbrev pub invariant-loop-shapes : goal.invariant-loop-shapes
+invariant-loop-shapes l = Rowing l.s l.at l.shapes-index

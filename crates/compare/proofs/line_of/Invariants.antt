@@ -1,11 +1,6 @@
 -- `line_of` meets its contract: before each turn the fields behind a place decide whether the codes that are left fit (`Lining`).
-use Prim.Native.Nat.{◌-◌}
-use lib.ListN.{length}
 use Rattle.compare.proofs.LawsLine.{Lining}
 use Rattle.compare.proofs.line_of.Given as goal
 
 abbrev pub invariant-loop-i : goal.invariant-loop-i
 invariant-loop-i l = Lining l.s l.at l.shapes l.i l.next
-
-abbrev pub decreases-loop-i : goal.decreases-loop-i
-decreases-loop-i l = length l.shapes - l.i

@@ -20,12 +20,12 @@ loop-at-preserved c =
       | else-b-eq10 w ↦ rw (w.line-is, w.place-is) (scan_more c.loop-at.invariant c.loop-at-test.true c.if-second-at.false c.if-b-second.false w.if-b-eq10.false)
     ]
 
-pub returns-then-first-second-clause-value : goal.returns-then-first-second-clause-value
-returns-then-first-second-clause-value c =
+pub returns-then-second-first-clause-value : goal.returns-then-second-first-clause-value
+returns-then-second-first-clause-value c =
     let w = c.loop-at.invariant in
-    scan_first_over w (omega (arith, c.loop-at-test.false)) (omega (arith, w.in_first, c.loop-at-test.false))
+    scan_over w (omega (arith, c.loop-at-test.false)) (omega (arith, w.in_first, c.loop-at-test.false, c.if-second-first.true))
 
-pub returns-clause-value : goal.returns-clause-value
-returns-clause-value c =
+pub returns-else-second-first-clause-value : goal.returns-else-second-first-clause-value
+returns-else-second-first-clause-value c =
     let w = c.loop-at.invariant in
-    scan_over w (omega (arith, c.loop-at-test.false)) (omega (arith, w.in_first, c.loop-at-test.false))
+    scan_first_over w (omega (arith, c.loop-at-test.false)) (omega (arith, w.in_second, c.loop-at-test.false, c.if-second-first.false))
