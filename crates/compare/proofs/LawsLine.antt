@@ -126,66 +126,66 @@ module _ (shape : Shape) (s : Bytes) (at : ℕ) where
 
 -- a line's shapes, field by field
 
-pub record Lining (s : Bytes) (at : ℕ) (codes : List Field.Shape) (i place : ℕ) : Type 0 where
-  pub inside : i ≤ length codes
+pub record Lining (s : Bytes) (at : ℕ) (shapes : List Field.Shape) (i place : ℕ) : Type 0 where
+  pub inside : i ≤ length shapes
   pub within : place ≤ length s
   pub further : at ≤ place
-  pub left : fits (shapes_of codes) (fields (line_at s at)) ≡ fits (shapes_of (drop i codes)) (fields_behind s place)
+  pub left : fits (shapes_of shapes) (fields (line_at s at)) ≡ fits (shapes_of (drop i shapes)) (fields_behind s place)
   pub closes : end_behind s place ≡ line_end s at
 
-pub line_misfit : (s : Bytes) (at : ℕ) (codes : List Field.Shape) → 0 < length codes → None ≡ field_place (shape_of (get_or codes 0 Number)) s at
-    → None ≡ line_place (fits (shapes_of codes) (fields (line_at s at))) s at
+pub line_misfit : (s : Bytes) (at : ℕ) (shapes : List Field.Shape) → 0 < length shapes → None ≡ field_place (shape_of (get_or shapes 0 Number)) s at
+    → None ≡ line_place (fits (shapes_of shapes) (fields (line_at s at))) s at
 unfolding fits field_place line_place
 line_misfit s at [] h e = absurd (omega arith)
 line_misfit s at (c ∷ cs) h e =
     place_bad (line_end s at) (rw (fields_at s at, told_none (field_end s at) (shape_of c (field_at s at)) e))
 
-pub lining_first : (s : Bytes) (at : ℕ) (codes : List Field.Shape) {place : ℕ} → 0 < length codes → at ≤ place → place ≤ length s
-    → Some place ≡ field_place (shape_of (get_or codes 0 Number)) s at → Lining s at codes 1 place
+pub lining_first : (s : Bytes) (at : ℕ) (shapes : List Field.Shape) {place : ℕ} → 0 < length shapes → at ≤ place → place ≤ length s
+    → Some place ≡ field_place (shape_of (get_or shapes 0 Number)) s at → Lining s at shapes 1 place
 unfolding fits field_place
 lining_first s at [] h a b e = absurd (omega arith)
 lining_first s at (c ∷ cs) h a b e =
     let t = told_at (field_end s at) (shape_of c (field_at s at)) e in
     record { inside = omega arith; within = b; further = a; left = rw (fields_at s at, t.0, t.1); closes = rw t.1 (end_field s at) }
 
-module _ {s : Bytes} {at : ℕ} {codes : List Field.Shape} {i place : ℕ} (w : Lining s at codes i place) where
-  module _ (m : i < length codes) where
-    pub lining_bad : None ≡ behind_place (shape_of (get_or codes i Number)) s place → None ≡ line_place (fits (shapes_of codes) (fields (line_at s at))) s at
+module _ {s : Bytes} {at : ℕ} {shapes : List Field.Shape} {i place : ℕ} (w : Lining s at shapes i place) where
+  module _ (m : i < length shapes) where
+    pub lining_bad : None ≡ behind_place (shape_of (get_or shapes i Number)) s place → None ≡ line_place (fits (shapes_of shapes) (fields (line_at s at))) s at
     unfolding line_place fits
     lining_bad e =
-        let x : Shape = shape_of (get_or codes i Number) in
+        let x : Shape = shape_of (get_or shapes i Number) in
         let f : (eqb (get_or s place 0) tab && x (field_at s (place + 1))) ≡ false = behind_untold x s place e in
         place_bad (line_end s at)
-        (rw (w.left, drop-cons codes i Number m)
+        (rw (w.left, drop-cons shapes i Number m)
         (by_test (eqb (get_or s place 0) tab)
         (λ y. rw (tab_fields s place (eqb-true (get_or s place 0) tab y), rw y at f))
         λ y. rw (fields_behind_none s place (eqb-false (get_or s place 0) tab y))))
 
-    pub lining_more : {further : ℕ} → place ≤ further → further ≤ length s → Some further ≡ behind_place (shape_of (get_or codes i Number)) s place → Lining s at codes (i + 1) further
+    pub lining_more : {further : ℕ} → place ≤ further → further ≤ length s → Some further ≡ behind_place (shape_of (get_or shapes i Number)) s place → Lining s at shapes (i + 1) further
     unfolding fits
     lining_more a b e =
-        let t = behind_told (shape_of (get_or codes i Number)) s place e in record {
+        let t = behind_told (shape_of (get_or shapes i Number)) s place e in record {
           inside = omega arith;
           within = b;
           further = omega (arith, w.further);
-          left = w.left ∙ rw (drop-cons codes i Number m, tab_fields s place t.0, t.1, t.2, add-one i);
+          left = w.left ∙ rw (drop-cons shapes i Number m, tab_fields s place t.0, t.1, t.2, add-one i);
           closes = rw t.2 (end_field s (place + 1)) ∙ sym (end_tab s place t.0) ∙ w.closes;
         }
 
-  module _ (m : length codes ≤ i) where
-    pub line_closed : get_or s place 0 ≡ line_feed → Some place ≡ line_place (fits (shapes_of codes) (fields (line_at s at))) s at
+  module _ (m : length shapes ≤ i) where
+    pub line_closed : get_or s place 0 ≡ line_feed → Some place ≡ line_place (fits (shapes_of shapes) (fields (line_at s at))) s at
     unfolding fits line_place place_told empty
     line_closed e =
         let d : get_or s place 0 ≡ tab → ⊥ = λ q. omega arith in
         let z : line_end s at ≡ place = sym w.closes ∙ end_none s place d in
-        rw (w.left, drop_of_length-le codes m, fields_behind_none s place d, z, e)
+        rw (w.left, drop_of_length-le shapes m, fields_behind_none s place d, z, e)
 
-    pub line_open : (get_or s place 0 ≡ line_feed → ⊥) → None ≡ line_place (fits (shapes_of codes) (fields (line_at s at))) s at
+    pub line_open : (get_or s place 0 ≡ line_feed → ⊥) → None ≡ line_place (fits (shapes_of shapes) (fields (line_at s at))) s at
     unfolding fits line_place empty
     line_open d =
         place_bad (line_end s at)
         (by_test (eqb (get_or s place 0) tab)
-        (λ y. rw (w.left, drop_of_length-le codes m, tab_fields s place (eqb-true (get_or s place 0) tab y)))
+        (λ y. rw (w.left, drop_of_length-le shapes m, tab_fields s place (eqb-true (get_or s place 0) tab y)))
         λ y.
         let n : get_or s place 0 ≡ tab → ⊥ = eqb-false (get_or s place 0) tab y in
         let z : line_end s at ≡ place = sym w.closes ∙ end_none s place n in
@@ -194,11 +194,11 @@ module _ {s : Bytes} {at : ℕ} {codes : List Field.Shape} {i place : ℕ} (w : 
 -- one of the lines' shapes
 
 abbrev fits_row : Bytes → ℕ → List Field.Shape → Bool
-fits_row s at codes = fits (shapes_of codes) (fields (line_at s at))
+fits_row s at shapes = fits (shapes_of shapes) (fields (line_at s at))
 
 unfoldable pub any_row : Bytes → ℕ → List (List Field.Shape) → Bool
 any_row s at [] = false
-any_row s at (codes ∷ rows) = fits_row s at codes || any_row s at rows
+any_row s at (shapes ∷ rows) = fits_row s at shapes || any_row s at rows
 
 all_rows : (s : Bytes) (at : ℕ) → any_row s at shapes_of_lines ≡ fault_shaped (line_at s at)
 unfolding any_row shapes_of_lines fault_shaped any fault_shapes fault_shape shape_of digits digit_from
@@ -265,9 +265,9 @@ module _ {s : Bytes} {at k : ℕ} (w : Rowing s at k) where
       rw (w.left, drop_of_length-le shapes_of_lines all)
 
 -- the line of an unreached block
-pub unreached_codes : (s : Bytes) (at : ℕ) → fits (shapes_of (Byte 78 ∷ Number ∷ [])) (fields (line_at s at)) ≡ unreached_shaped (line_at s at)
+pub unreached_shapes : (s : Bytes) (at : ℕ) → fits (shapes_of (Byte 78 ∷ Number ∷ [])) (fields (line_at s at)) ≡ unreached_shaped (line_at s at)
 unfolding unreached_shaped shape_of
-unreached_codes s at = refl
+unreached_shapes s at = refl
 
 -- the header, field by field: from each place on the rest of it is read by f
 

@@ -1,4 +1,4 @@
--- `line_of` meets its contract: before each turn the fields behind a place decide whether the codes that are left fit (`Lining`).
+-- `line_of` meets its contract: before each turn the fields behind a place decide whether the shapes that are left fit (`Lining`).
 use Rattle.compare.proofs.LawsLine.{Lining}
 use Rattle.compare.proofs.line_of.Given as goal
 
