@@ -160,6 +160,7 @@ fn line_of(s: &[u8], at: usize, shapes: &[Shape]) -> Option<usize>
     ensures within { LineWithin s.now at result }
 {
     let mut next = field_at(s, at, shapes[0])?;
+    // By index: over `&shapes[1..]` the invariant would speak of a part of the list, and of how it stands to the whole.
     for i in 1..shapes.len() {
         next = field_behind(s, next, shapes[i])?;
     }
