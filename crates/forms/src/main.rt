@@ -6,7 +6,7 @@
 
 ghost use Rattle.std.specs.Prelude.{◌≤◌, length};
 
-use paper::Written;
+use paper::Unwritten;
 use std::io;
 use std::io::{Read, Write};
 
@@ -39,17 +39,16 @@ fn size_of(bytes: &[u8], most: usize) -> usize
 
 // The first two frames.
 fn write_answer<W: Write>(output: &mut W, words: &[u16], room: &mut [u8]) -> io::Result<()> {
-    let written = writer::write_sheet(words, room);
-    match written {
-        Written::Text(length) => {
+    match writer::write_sheet(words, room) {
+        Ok(length) => {
             frames::write(output, b"T")?;
             frames::write(output, &room[..length])
         }
-        Written::NoSheet => {
+        Err(Unwritten::NoSheet) => {
             frames::write(output, b"S")?;
             frames::write(output, b"")
         }
-        Written::NoRoom => {
+        Err(Unwritten::NoRoom) => {
             frames::write(output, b"R")?;
             frames::write(output, b"")
         }

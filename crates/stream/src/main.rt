@@ -7,7 +7,7 @@
 ghost use Rattle.std.specs.Prelude.{◌≤◌, length};
 
 use layout::{MAX_SHEET, QUEUE_SIZE, WORDS_SIZE};
-use paper::{Answer, Rule, Written};
+use paper::{Answer, Rule};
 use states::Part;
 use std::io;
 use std::io::{Read, Write};
@@ -54,11 +54,7 @@ fn write_sealed<W: Write>(
 fn back_length(sheet: &[u8], text: &mut [u8], words: &mut [u16]) -> usize
     ensures { result ≤ length text.new }
 {
-    let written = writer::write_back(sheet, words, text);
-    match written {
-        Written::Text(length) => length,
-        Written::NoSheet | Written::NoRoom => 0,
-    }
+    writer::write_back(sheet, words, text).unwrap_or(0)
 }
 
 // The sheet written back as a frame.

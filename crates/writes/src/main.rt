@@ -6,7 +6,7 @@
 ghost use Rattle.std.specs.Prelude.{◌≤◌, length};
 
 use layout::{MAX_SHEET, QUEUE_SIZE, WORDS_SIZE};
-use paper::{Rule, Written};
+use paper::{Rule, Unwritten};
 use std::io;
 use std::io::{Read, Write};
 
@@ -14,11 +14,10 @@ use std::io::{Read, Write};
 fn reply_to(sheet: &[u8], text: &mut [u8], words: &mut [u16], queue: &mut [u8]) -> usize
     ensures { result ≤ length text.new }
 {
-    let written = writer::write_back(sheet, words, text);
-    match written {
-        Written::Text(length) => length,
-        Written::NoSheet => checker::answer_text(Rule::House, sheet, text, words, queue),
-        Written::NoRoom => 0,
+    match writer::write_back(sheet, words, text) {
+        Ok(length) => length,
+        Err(Unwritten::NoSheet) => checker::answer_text(Rule::House, sheet, text, words, queue),
+        Err(Unwritten::NoRoom) => 0,
     }
 }
 

@@ -3,8 +3,8 @@ use Rattle.std.proofs.Common.{refl, sym, length-take-le}
 use Rattle.writer.specs.Within.{form_within}
 use Rattle.forms.proofs.write_answer.Goals as goal
 
-pub slice_bounds-write-end-in-Text : goal.slice_bounds-write-end-in-Text
-slice_bounds-write-end-in-Text g c = form_within _ _ _ _ _ refl c.in-Text.ensures
+pub slice_bounds-write-end-in-Ok : goal.slice_bounds-write-end-in-Ok
+slice_bounds-write-end-in-Ok g c = form_within _ _ _ _ _ refl c.in-Ok.ensures
 
-pub slice_bounds-write-end-in-Text-2 : goal.slice_bounds-write-end-in-Text-2
-slice_bounds-write-end-in-Text-2 g c = sym (length-take-le _ _ (form_within _ _ _ _ _ refl c.in-Text.ensures))
+pub slice_bounds-write-end-in-Ok-2 : goal.slice_bounds-write-end-in-Ok-2
+slice_bounds-write-end-in-Ok-2 g c = sym (length-take-le _ _ (form_within _ _ _ _ _ refl c.in-Ok.ensures))
