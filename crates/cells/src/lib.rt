@@ -278,7 +278,8 @@ fn may_change(rule: Rule, words: &[u16], at: usize, row: &[u16; ROW_WORDS]) -> u
     let mut mask: u32 = 0;
     for (i, &word) in row.iter().enumerate() {
         let here = stays(rule, words[at + i], word);
-        mask += mask_unless(here, i);
+        let bit = mask_unless(here, i);
+        mask += bit;
     }
     mask
 }
