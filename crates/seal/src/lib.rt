@@ -70,7 +70,8 @@ pub fn crc(text: &[u8]) -> u32
     register ^ 0xffffffff
 }
 
-// The lowest hex digit of a number. (`char::from_digit` gives a char in an Option, which is no plainer.)
+// The lowest hex digit of a number.
+// (Not by `char::from_digit`: a char in an Option is no plainer.)
 fn hex_digit(n: u32) -> u8
     ensures { result ≡ paper_seal.hex_digit (n % 16) }
 {
@@ -113,6 +114,7 @@ pub fn write_seal(out: &mut [u8], end: usize) -> usize
     behind
 }
 
+// Is this byte a lowercase hex digit?
 #[tactic(auto, unfolding(paper::specs::Seal::is_hex, paper::specs::Text::is_digit))]
 fn is_hex(b: u8) -> bool
     ensures { result ≡ paper_seal.is_hex b }
@@ -178,6 +180,7 @@ pub fn verify(text: &[u8]) -> Seal
 pub extern "C" fn itanropen_verify(text: &[u8]) -> u8
     ensures { result ≡ code_of (paper_seal.seal_of text.now) }
 {
+    // (Not an impl of From: Seal is a type of paper, and its numbers are those of the C interface.)
     match verify(text) {
         Seal::Good => 0,
         Seal::Wrong => 1,
