@@ -121,21 +121,21 @@ row_front at l row e n h =
     let k : at + 32 - at ≡ 32 = omega arith in
     rw (e, k) (take-take n 32 (drop at l) h)
 
-copied_over : (at n : ℕ) (l row : List ℕ) → at + n ≤ length l → n ≤ length row → take at l ++ (take n row ++ drop n (drop at l)) ≡ over at n (λ k w. get_or row k 0) l
+stored_over : (at n : ℕ) (l row : List ℕ) → at + n ≤ length l → n ≤ length row → take at l ++ (take n row ++ drop n (drop at l)) ≡ over at n (λ k w. get_or row k 0) l
 unfolding over
-copied_over zero zero [] row h q = refl
-copied_over zero (suc n) [] row h q = absurd (omega arith)
-copied_over (suc at) n [] row h q = absurd (omega arith)
-copied_over zero zero (x ∷ l) row h q = refl
-copied_over zero (suc n) (x ∷ l) [] h q = absurd (omega arith)
-copied_over zero (suc n) (x ∷ l) (y ∷ row) h q = ap (λ t. y ∷ t) (copied_over zero n l row (omega arith) (omega arith))
-copied_over (suc at) n (x ∷ l) row h q = ap (λ t. x ∷ t) (copied_over at n l row (omega arith) q)
+stored_over zero zero [] row h q = refl
+stored_over zero (suc n) [] row h q = absurd (omega arith)
+stored_over (suc at) n [] row h q = absurd (omega arith)
+stored_over zero zero (x ∷ l) row h q = refl
+stored_over zero (suc n) (x ∷ l) [] h q = absurd (omega arith)
+stored_over zero (suc n) (x ∷ l) (y ∷ row) h q = ap (λ t. y ∷ t) (stored_over zero n l row (omega arith) (omega arith))
+stored_over (suc at) n (x ∷ l) row h q = ap (λ t. x ∷ t) (stored_over at n l row (omega arith) q)
 
 pub row_stored : (at n : ℕ) (l row : List ℕ) {part : List ℕ} → part ≡ take n row → at + n ≤ length l → n ≤ length row
     → put_mid at (at + n - at) l part ≡ over at n (λ k w. get_or row k 0) l
 row_stored at n l row e h q =
     let k : at + n - at ≡ n = omega arith in
-    rw (k, e) (copied_over at n l row h q)
+    rw (k, e) (stored_over at n l row h q)
 
 -- a row met into words, cell by cell
 pub met_over : (rule : Rule) (n : ℕ) (row l : List ℕ) → length l ≡ n → n ≤ length row → map cell_of (over 0 n (meet_at rule row) l) ≡ pointwise (paper.meet rule) (map cell_of l) (cells_of n row)

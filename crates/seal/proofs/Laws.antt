@@ -5,7 +5,6 @@ use Prim.Native.Nat.{ℕ, zero, suc, ◌+◌, ◌/◌, ◌%◌, ◌≤◌, ◌<�
 use native.Mathlib.Nat.{zero-add, div-one}
 use native.Mathlib.Numerals.{add-one}
 use native.Mathlib.Omega.{arith}
-use borrow.Author.Tests.{lt-ltb, le-ltb}
 use lib.Bits.{bit_xor, bit_and, and_mask}
 use lib.ListN.{length, get_or, drop, drop_of_length-le}
 use lib.Seq.{drop-cons}
@@ -42,15 +41,6 @@ unfolding feed crc_of
 feed_end s register i h e =
     let k : register ≡ feed all_ones s = rw (drop_of_length-le s h) at e in
     ap (λ (x : ℕ). bit_xor x all_ones) k
-
--- a hex digit, below ten and from ten on
-pub digit_low : (n : ℕ) → n < 10 → 48 + n ≡ hex_digit n
-unfolding hex_digit
-digit_low n h = rw (lt-ltb n 10 h)
-
-pub digit_high : (n : ℕ) → 10 ≤ n → 87 + n ≡ hex_digit n
-unfolding hex_digit
-digit_high n h = rw (le-ltb n 10 h)
 
 -- the seal's line, byte by byte
 pub line_spelled : (word : ℕ) → (letter_K ∷ tab ∷ hex_digit (word / 0x10000000 % 16) ∷ hex_digit (word / 0x1000000 % 16) ∷ hex_digit (word / 0x100000 % 16)

@@ -1,5 +1,5 @@
 -- The reader's answer, by the tests of the code; and the seal's line written behind a text.
-use mathlib.Core.Path.{◌≡◌, refl, sym, ap, ◌∙◌}
+use mathlib.Core.Path.{◌≡◌, refl, ap, ◌∙◌}
 use mathlib.Core.Bool.{Bool, true, false, cond}
 use mathlib.Core.List.{List}
 use Prim.Native.Nat.{ℕ, ◌+◌, ◌-◌, ◌≤◌, ◌<◌}
@@ -13,9 +13,7 @@ use Rattle.paper.specs.Text.{Bytes}
 use Rattle.std.specs.Cmp.Lexicographic.{pointwise}
 use Rattle.paper.specs.Limits.{seal_size}
 use Rattle.paper.specs.Seal.{crc_of, hex_digits, seal_line, seal_shaped, closed, before_seal, last_line, has_seal, seal_of}
-use Rattle.paper.specs.declared.Seal.{Seal}
 use Rattle.paper.specs.declared.Seal.TheVariants.{Good, Wrong, None}
-use Rattle.seal.specs.Exported.{code_of}
 use Rattle.seal.proofs.LawsText.{same_bytes}
 use borrow.Rule.Slice.PartMut.{put_mid}
 use lib.Seq.{sets, sets-eq}
@@ -52,10 +50,6 @@ module _ (text : Bytes) where
       pub told : (t : Bool) → pointwise eqb back line ≡ t → cond t Good Wrong ≡ seal_of text
       unfolding seal_of has_seal before_seal
       told t h = rw (le-leb seal_size (length text) long, ← back_is, s, k, ← e, ← same_bytes, h)
-
--- the answer's number
-pub told_as : (text : Bytes) {seal answer : Seal} → seal ≡ seal_of text → seal ≡ answer → code_of answer ≡ code_of (seal_of text)
-told_as text e f = ap code_of (sym f ∙ e)
 
 -- a text copied to a place
 copied : (l text : List ℕ) (at n : ℕ) → length text ≡ n → at + n ≤ length l → put_mid at (at + n - at) l text ≡ sets l at text

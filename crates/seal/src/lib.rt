@@ -72,6 +72,7 @@ pub fn crc(text: &[u8]) -> u32
 
 // The lowest hex digit of a number.
 // (Not by `char::from_digit`: a char in an Option is no plainer.)
+#[tactic(auto, unfolding(paper::specs::Seal::hex_digit))]
 fn hex_digit(n: u32) -> u8
     ensures { result ≡ paper_seal.hex_digit (n % 16) }
 {
@@ -177,6 +178,7 @@ pub fn verify(text: &[u8]) -> Seal
 
 // `verify` for C: 0 good, 1 a wrong word, 2 no seal line.
 #[unsafe(no_mangle)]
+#[tactic(auto, unfolding(crate::specs::Exported::code_of))]
 pub extern "C" fn itanropen_verify(text: &[u8]) -> u8
     ensures { result ≡ code_of (paper_seal.seal_of text.now) }
 {

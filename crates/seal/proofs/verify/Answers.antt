@@ -1,8 +1,6 @@
 -- `seal::verify` meets its contract: each test is one of the paper.
 use mathlib.Core.Path.{sym, ap, ◌∙◌}
 use mathlib.Core.Bool.{true, false}
-use native.Mathlib.Omega.{arith}
-use lib.ListN.{length-take}
 use Rattle.paper.specs.Seal.{seal_line}
 use Rattle.seal.proofs.LawsSeal.{short, unshaped, unclosed, told}
 use Rattle.seal.proofs.verify.Goals as goal
@@ -13,15 +11,9 @@ returns-then-text-lt-SEAL_SIZE c = short _ c.if-text-lt-SEAL_SIZE.true
 pub returns-then-not-seal_shaped : goal.returns-then-not-seal_shaped
 returns-then-not-seal_shaped c = unshaped _ c.if-text-lt-SEAL_SIZE.false (sym c.seal_shaped.ensures ∙ c.if-not-seal_shaped.true)
 
-pub slice_bounds-closed-end : goal.slice_bounds-closed-end
-slice_bounds-closed-end c = simp length-take (omega arith)
-
 pub returns-then-not-closed : goal.returns-then-not-closed
 returns-then-not-closed c =
     unclosed _ c.if-text-lt-SEAL_SIZE.false (sym c.seal_shaped.ensures ∙ c.if-not-seal_shaped.false) (sym c.closed.ensures ∙ c.if-not-closed.true)
-
-pub slice_bounds-crc-end : goal.slice_bounds-crc-end
-slice_bounds-crc-end c = simp length-take (omega arith)
 
 pub returns-then-eq : goal.returns-then-eq
 returns-then-eq c =
