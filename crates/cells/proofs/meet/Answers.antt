@@ -1,14 +1,7 @@
 -- `meet` meets its contract: each way out gives the word that the table's entry stands for, of two names by name and mark
 -- (`meet_word`); that this word means the paper's meet is shown once for the whole table (`met_meaning`).
-use native.Mathlib.Omega.{arith}
-use Rattle.cells.proofs.Laws.{index_below, met_left, met_right, met_conflict, met_marked, met_marks, met_unmarked}
+use Rattle.cells.proofs.Laws.{met_left, met_right, met_conflict, met_marked, met_marks, met_unmarked}
 use Rattle.cells.proofs.meet.Goals as goal
-
-pub offset_bounds-table-k : goal.offset_bounds-table-k
-offset_bounds-table-k c = omega (arith, (index_below c.args.rule _ c.rule_index-k.ensures))
-
-pub bounds-table-k : goal.bounds-table-k
-bounds-table-k c = (index_below c.args.rule _ c.rule_index-k.ensures)
 
 pub returns-then-side-eq0 : goal.returns-then-side-eq0
 returns-then-side-eq0 c = met_left _ _ _ _ _ c.requires c.rule_index-k.ensures c.if-side-eq0.true
