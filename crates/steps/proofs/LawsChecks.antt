@@ -15,7 +15,7 @@ use lib.Count.{count_trailing_zeros}
 use Rattle.lists.specs.Region.{region}
 use Rattle.lists.specs.Regions.{All, all_region}
 use Rattle.lists.specs.Split.{by_equal}
-use Rattle.lists.specs.Bits.{set_bits, no_bits, lowest, trailing_below, set_bits_below}
+use Rattle.lists.specs.Bits.{set_bits, no_bits, lowest, set_bits_below}
 use Rattle.paper.specs.Cells.{named}
 use Rattle.paper.specs.Steps as paper
 use Rattle.paper.specs.Steps.{slot, get, location_of, first_of, check_use, check_uses, check_change, check_slot, check_slots}
@@ -56,9 +56,6 @@ module _ (f : ℕ → CheckResult) (mask : ℕ) where
       → Turn (first_error f (set_bits mask)) (f (count_trailing_zeros 32 mask)) (first_error f (set_bits (mask - 2 ^ count_trailing_zeros 32 mask)))
   unfolding first_error set_bits
   next_slot d h = turned _ _ _ (rw (lowest 32 0 mask (omega arith) h, zero-add))
-
-pub slot_below : (mask : ℕ) → (mask ≡ 0 → ⊥) → mask < 2 ^ 32 → count_trailing_zeros 32 mask < 32
-slot_below mask d h = trailing_below 32 32 mask (omega arith) h
 
 -- what an error means
 fault_and : (r later : CheckResult) → fault_of (result_and r later) ≡ first_of (fault_of r) (fault_of later)

@@ -18,17 +18,6 @@ quiet Spill into from S = refl
 quiet Reload into from S = refl
 quiet Move into from S = refl
 
-pub offset_bounds-s-slot : goal.offset_bounds-s-slot
-offset_bounds-s-slot c = omega (arith, rw c.in-Change.is at c.requires)
-
-pub bounds-s-slot : goal.bounds-s-slot
-bounds-s-slot c = omega (arith, rw c.in-Change.is at c.requires)
-
-pub check_uses-requires : goal.check_uses-requires
-check_uses-requires c =
-    let r = rw c.in-Operation.is at c.requires in
-    (omega arith, r.3)
-
 pub returns-in-Change : goal.returns-in-Change
 unfolding step_of paper.check
 returns-in-Change c =
