@@ -73,9 +73,6 @@ pub missing_ended : (words : List ℕ) (block first i n : ℕ) → n ≤ i → l
 unfolding missing_from steps_at
 missing_ended words block first i n h = let e : n - i ≡ 0 = omega arith in rw e
 
-pub missing_start : (words : List ℕ) (block first n : ℕ) → missing_from block 0 (steps_at words first n) ≡ left words block first 0 n
-missing_start words block first n = let e : first + 0 ≡ first = omega arith in let f : n - 0 ≡ n = omega arith in rw (e, f)
-
 module _ (S : Sheet) (b n : ℕ) (h : b < n) where
   block_turn : missing_blocks S b (n - b) ≡ first_list (missing_from b 0 (steps_of S b)) (missing_blocks S (b + 1) (n - (b + 1)))
   unfolding missing_blocks

@@ -32,27 +32,8 @@ most : {rule : Rule} {words : List ℕ} {block : ℕ} (a : Action) → Checkable
     → InRange (counts_in words) words a → InRange row_widths words a
 most {rule} {words} {block} a C h r = in_range_most (counts_in words) words a (block_within C.loaded h).rows r
 
-pub first_step-first-requires : goal.first_step-first-requires
-first_step-first-requires c = let w = (block_within c.requires.0.loaded c.requires.1) in
-    (omega arith, omega arith)
-
-pub step_total-count-requires : goal.step_total-count-requires
-step_total-count-requires c = let w = (block_within c.requires.0.loaded c.requires.1) in
-    (omega arith, omega arith)
-
-pub load-t-requires : goal.load-t-requires
-load-t-requires c = let w = (block_within c.requires.0.loaded c.requires.1) in
-    omega arith
-
 pub loop-place-init : goal.loop-place-init
 loop-place-init c = (omega arith, so_far_none c.requires.0 c.requires.1 _ _ _ _ (c.load-t.ensures _ (block_within c.requires.0.loaded c.requires.1).rows))
-
-pub overflow_add-first : goal.overflow_add-first
-overflow_add-first c = omega (arith, (block_within c.requires.0.loaded c.requires.1))
-
-pub action_at-action-requires : goal.action_at-action-requires
-action_at-action-requires c = let w = (block_within c.requires.0.loaded c.requires.1) in
-    (omega arith, omega arith)
 
 pub check-checked-requires : goal.check-checked-requires
 check-checked-requires c = (most _ c.requires.0 c.requires.1 (runs c.requires.0 c.requires.1 c.first_step-first.ensures c.action_at-action.ensures c.step_total-count.ensures c.loop-place-test.true))

@@ -13,9 +13,6 @@ pub returns-in-Count : goal.returns-in-Count
 unfolding fault_of
 returns-in-Count c = rw (c.in-Count.is, c.in-Err.is) (pass_counted _ _ _ _, omega arith)
 
-pub fields_of-requires : goal.fields_of-requires
-fields_of-requires c = c.requires.1 _ c.in-Err.is
-
 pub write_line-requires : goal.write_line-requires
 write_line-requires c = (c.requires.0, omega (arith, (line_short c.args.position c.fields_of.result c.requires.0 c.fields_of.ensures.short)))
 

@@ -6,9 +6,6 @@ use Rattle.layout.specs.Layout.{blocks_word}
 use Rattle.faults.proofs.LawsBlock.{count_next, count_within, blocks_none, blocks_more, blocks_all}
 use Rattle.faults.proofs.find_errors.Goals as goal
 
-pub blocks-blocks-requires : goal.blocks-blocks-requires
-blocks-blocks-requires c = c.requires.0.loaded.bounds.size
-
 pub loop-block-init : goal.loop-block-init
 loop-block-init c = (omega arith, blocks_none _ _ _ _ _)
 

@@ -4,34 +4,11 @@ use Prim.Native.Nat.{ℕ, ◌+◌}
 use native.Mathlib.Omega.{arith}
 use Rattle.paper.specs.Report.{Line}
 use Rattle.loaded.specs.Actions.{step_of, action_at}
-use Rattle.loaded.specs.Loaded.{first_step}
 use Rattle.loaded.specs.Blocks.{steps_in_words}
 use Rattle.faults.specs.Missing.{step_lines, missing_lines}
-use Rattle.faults.proofs.LawsBlock.{block_within, room_at}
-use Rattle.faults.proofs.LawsMissing.{missing_start, missing_here, missing_later, missing_ended}
+use Rattle.faults.proofs.LawsBlock.{block_within}
+use Rattle.faults.proofs.LawsMissing.{missing_here, missing_later, missing_ended}
 use Rattle.faults.proofs.find_in_block.Goals as goal
-
-pub first_step-first-requires : goal.first_step-first-requires
-first_step-first-requires c = let w = (block_within c.requires.0 c.requires.1) in
-    (omega arith, omega arith)
-
-pub step_total-count-requires : goal.step_total-count-requires
-step_total-count-requires c = let w = (block_within c.requires.0 c.requires.1) in
-    (omega arith, omega arith)
-
-pub loop-place-init : goal.loop-place-init
-loop-place-init c = missing_start _ _ _ _
-
-pub overflow_add-k : goal.overflow_add-k
-overflow_add-k c = omega (arith, (block_within c.requires.0 c.requires.1))
-
-pub action_at-action-requires : goal.action_at-action-requires
-action_at-action-requires c = let w = (block_within c.requires.0 c.requires.1) in
-    (omega arith, omega arith)
-
-pub missing-requires : goal.missing-requires
-missing-requires c = let w = (block_within c.requires.0 c.requires.1) in
-    rw (c.action_at-action.ensures ∙ ap (λ (n : ℕ). action_at c.args.words.now (n + c.loop-place.place)) c.first_step-first.ensures) (room_at c.requires.0 (first_step c.args.words.now c.args.block + c.loop-place.place) (omega arith))
 
 pub returns-then-missing : goal.returns-then-missing
 unfolding missing_lines

@@ -6,15 +6,9 @@ use Rattle.faults.specs.Missing.{missing_lines}
 use Rattle.faults.proofs.LawsMissing.{blocks_start, block_here, block_later, blocks_ended, some_lines, no_lines_found}
 use Rattle.faults.proofs.find_missing.Goals as goal
 
-pub blocks-count-requires : goal.blocks-count-requires
-blocks-count-requires c = c.requires.bounds.size
-
 pub loop-block-init : goal.loop-block-init
 unfolding missing_allocations sheet_of
 loop-block-init c = blocks_start _ _
-
-pub find_in_block-requires : goal.find_in_block-requires
-find_in_block-requires c = (c.requires, omega arith)
 
 pub returns-in-Some : goal.returns-in-Some
 returns-in-Some c = let m = rw c.in-Some.is at c.find_in_block.ensures in

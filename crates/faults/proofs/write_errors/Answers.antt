@@ -7,9 +7,6 @@ use Rattle.faults.proofs.LawsBlock.{faultless_lines}
 use Rattle.faults.proofs.LawsReported.{none_counted, errors_accepted, errors_faulty, entries_found}
 use Rattle.faults.proofs.write_errors.Goals as goal
 
-pub find_errors-count-requires : goal.find_errors-count-requires
-find_errors-count-requires c = (c.requires.0, omega arith)
-
 pub write_header-next-requires : goal.write_header-next-requires
 write_header-next-requires c = (omega arith, omega (arith, header_short c.args.rule c.find_errors-count.result))
 

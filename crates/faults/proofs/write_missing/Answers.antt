@@ -25,33 +25,11 @@ other words (Change inst k from to) h e = true≢false (sym e)
 other words (Operation inst at n m) h e = h inst at n m refl
 other words (Safepoint inst mask) h e = true≢false (sym e)
 
-pub action_at-requires : goal.action_at-requires
-action_at-requires c = (omega (arith, c.requires.0.bounds, c.requires.1.within), omega (arith, c.requires.0.bounds))
-
 pub returns-in_default : goal.returns-in_default
 returns-in_default c = absurd (other c.args.words.now c.action_at.result c.in_default.not-Operation (rw c.action_at.ensures c.requires.1.within.3))
 
-pub missing_among-requires : goal.missing_among-requires
-missing_among-requires c = omega (
-  arith,
-  (subst (λ (a : Action). RoomFor a c.args.words.now) (sym c.action_at.ensures ∙ c.in-Operation.is)
-      (room_at c.requires.0 c.args.missing.k c.requires.1.within.2)),
-)
-
-pub write_missing_among-requires : goal.write_missing_among-requires
-write_missing_among-requires c = let r = (subst (λ (a : Action). RoomFor a c.args.words.now) (sym c.action_at.ensures ∙ c.in-Operation.is)
-    (room_at c.requires.0 c.args.missing.k c.requires.1.within.2)) in
-    (omega arith, omega arith, (omega (arith, c.requires.0.bounds.blocks, c.requires.1.within), c.requires.1.within.1), c.requires.2, sym c.missing_among.ensures ∙ c.if-missing_among.true)
-
 pub returns-then-missing_among : goal.returns-then-missing_among
 returns-then-missing_among c = rw ((rw (sym c.action_at.ensures ∙ c.in-Operation.is) at (entries_missing c.args.rule c.args.words.now c.args.missing c.requires.1)), lines_of_uses _ _ _ _ _ _ _ (sym c.missing_among.ensures ∙ c.if-missing_among.true)) c.write_missing_among.ensures
-
-pub overflow_add-at : goal.overflow_add-at
-overflow_add-at c = omega (
-  arith,
-  (subst (λ (a : Action). RoomFor a c.args.words.now) (sym c.action_at.ensures ∙ c.in-Operation.is)
-      (room_at c.requires.0 c.args.missing.k c.requires.1.within.2)),
-)
 
 pub write_missing_among-requires-2 : goal.write_missing_among-requires-2
 write_missing_among-requires-2 c = let r = (subst (λ (a : Action). RoomFor a c.args.words.now) (sym c.action_at.ensures ∙ c.in-Operation.is)

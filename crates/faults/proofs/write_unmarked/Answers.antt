@@ -8,17 +8,8 @@ use Rattle.faults.proofs.LawsBlock.{unmarked_none, unmarked_skipped, unmarked_mo
 use Rattle.faults.proofs.write_unmarked.Goals as goal
 use Rattle.faults.proofs.write_unmarked.Goals.{then-words-block-eq0, else-words-block-eq0}
 
-pub blocks-total-requires : goal.blocks-total-requires
-blocks-total-requires c = c.requires.0.bounds.size
-
 pub loop-block-init : goal.loop-block-init
 loop-block-init c = (omega arith, unmarked_none c.args.words.now _ _)
-
-pub overflow_add-block : goal.overflow_add-block
-overflow_add-block c = omega (arith, c.requires.0.bounds)
-
-pub bounds-words-block : goal.bounds-words-block
-bounds-words-block c = omega (arith, c.requires.0.bounds.blocks, c.requires.1)
 
 pub write_unreached-next-requires : goal.write_unreached-next-requires
 write_unreached-next-requires c = let few = c.requires.0.bounds.blocks in
