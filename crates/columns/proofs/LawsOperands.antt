@@ -15,7 +15,7 @@ use Rattle.paper.specs.Refusals.{Read, next, ◌>>=◌, allocation_of, operands_
 use Rattle.fields.specs.Fields.{fields_behind}
 use Rattle.records.specs.Records.{Behind, Next, name_of_code, register_of_code}
 use Rattle.records.specs.Parts.{put_first, NextOperand, operand_of_codes, counted}
-use Rattle.columns.specs.declared.Sought.{Sought}
+use Rattle.loaded.specs.declared.Counts.{Counts}
 use Rattle.columns.specs.declared.Code.TheVariants as held
 use Rattle.columns.specs.Columns.{Shown, Passed, Earlier, shares, name_test, register_test, GroupPassed, GroupShown}
 use Rattle.columns.proofs.LawsPassing.{passed_on}
@@ -149,31 +149,31 @@ module _ {test : Operand → Bool} {s : Bytes} {at count done i : ℕ} (r : Sear
 
 -- the tests of an operand
 
-module _ (sought : Sought) (us : List Operand) (code : ℕ) where
-  pub name_unasked : (sought.number ≡ 6 → ⊥) → new_name sought.number us (name_of_code code) ≡ true
+module _ (number : ℕ) (us : List Operand) (code : ℕ) where
+  pub name_unasked : (number ≡ 6 → ⊥) → new_name number us (name_of_code code) ≡ true
   unfolding new_name
-  name_unasked f = rw (ne_eqb sought.number 6 f)
+  name_unasked f = rw (ne_eqb number 6 f)
 
-  pub name_earlier : {b : Bool} → sought.number ≡ 6 → b ≡ any (shares (held.Name code)) us → new_name sought.number us (name_of_code code) ≡ not b
+  pub name_earlier : {b : Bool} → number ≡ 6 → b ≡ any (shares (held.Name code)) us → new_name number us (name_of_code code) ≡ not b
   unfolding new_name shares
-  name_earlier e q = rw (eq-eqb sought.number 6 e, q)
+  name_earlier e q = rw (eq-eqb number 6 e, q)
 
-module _ (sought : Sought) (us : List Operand) (name register : ℕ) where
-  pub register_limit : sought.number ≡ 5
-      → (ltb register 100000 && leb sought.counts.regs register) ≡ not (register_test sought us (name_of_code name) (register_of_code register))
+module _ (number : ℕ) (counts : Counts) (defs : Bool) (us : List Operand) (name register : ℕ) where
+  pub register_limit : number ≡ 5
+      → (ltb register 100000 && leb counts.regs register) ≡ not (register_test number counts defs us (name_of_code name) (register_of_code register))
   unfolding reg_within new_reg at_home reg_beyond register_of_code
   register_limit e =
       rw (e)
       (by_order register 100000
-      (λ h. rw (lt-ltb register 100000 h) (twice (leb sought.counts.regs register)))
+      (λ h. rw (lt-ltb register 100000 h) (twice (leb counts.regs register)))
       λ h. rw (le-ltb register 100000 h))
     where
       twice : (b : Bool) → b ≡ not (not b && true)
       twice true = refl
       twice false = refl
 
-  pub register_home : sought.number ≡ 7
-      → elsewhere (name_of_code name) (register_of_code register) ≡ not (register_test sought us (name_of_code name) (register_of_code register))
+  pub register_home : number ≡ 7
+      → elsewhere (name_of_code name) (register_of_code register) ≡ not (register_test number counts defs us (name_of_code name) (register_of_code register))
   unfolding reg_within new_reg at_home
   register_home e = rw (e) (twice (elsewhere (name_of_code name) (register_of_code register)))
     where
@@ -181,21 +181,21 @@ module _ (sought : Sought) (us : List Operand) (name register : ℕ) where
       twice true = refl
       twice false = refl
 
-  pub register_earlier : (eqb sought.number 6 && sought.defs) ≡ true
-      → any (shares (held.Register register)) us ≡ not (register_test sought us (name_of_code name) (register_of_code register))
+  pub register_earlier : (eqb number 6 && defs) ≡ true
+      → any (shares (held.Register register)) us ≡ not (register_test number counts defs us (name_of_code name) (register_of_code register))
   unfolding reg_within new_reg at_home shares
   register_earlier e =
-      let six : sought.number ≡ 6 = eqb-true _ _ (and_left _ _ e) in
-      rw (six, and_right (eqb sought.number 6) _ e) (twice (any (same_reg (register_of_code register)) us))
+      let six : number ≡ 6 = eqb-true _ _ (and_left _ _ e) in
+      rw (six, and_right (eqb number 6) _ e) (twice (any (same_reg (register_of_code register)) us))
     where
       twice : (b : Bool) → b ≡ not (not b && true)
       twice true = refl
       twice false = refl
 
-  pub register_unasked : (sought.number ≡ 5 → ⊥) → (sought.number ≡ 7 → ⊥) → (eqb sought.number 6 && sought.defs) ≡ false
-      → false ≡ not (register_test sought us (name_of_code name) (register_of_code register))
+  pub register_unasked : (number ≡ 5 → ⊥) → (number ≡ 7 → ⊥) → (eqb number 6 && defs) ≡ false
+      → false ≡ not (register_test number counts defs us (name_of_code name) (register_of_code register))
   unfolding reg_within new_reg at_home
-  register_unasked f g e = rw (ne_eqb sought.number 5 f, ne_eqb sought.number 7 g, e)
+  register_unasked f g e = rw (ne_eqb number 5 f, ne_eqb number 7 g, e)
 
 -- a group, operand by operand
 
@@ -212,17 +212,17 @@ put_last us u none = refl
 put_last us u (some x) =
     ap (λ (l : List Operand). some (record { value = l; rest = x.rest })) (sym (append_assoc us (u ∷ []) x.value))
 
-pub record Grouped (sought : Sought) (s : Bytes) (first n count i : ℕ) : Type 0 where
+pub record Grouped (number : ℕ) (counts : Counts) (defs : Bool) (s : Bytes) (first n count i : ℕ) : Type 0 where
   pub us : List Operand
   pub so_far : (m : ℕ) → operands_of (count + m) (fields_behind s first) ≡ map (put_all us) (operands_of m (fields_behind s i))
   pub gives : (more : List Bytes → ℕ)
-      → operands_passing sought.number (counted sought.counts) sought.defs n [] (fields_behind s first) more
-      ≡ 2 * count + operands_passing sought.number (counted sought.counts) sought.defs (n - count) us (fields_behind s i) more
+      → operands_passing number (counted counts) defs n [] (fields_behind s first) more
+      ≡ 2 * count + operands_passing number (counted counts) defs (n - count) us (fields_behind s i) more
   pub behind : Behind s i
   pub few : count ≤ n
 
-pub grouped_none : (sought : Sought) (s : Bytes) (first n : ℕ) → Behind s first → Grouped sought s first n 0 first
-grouped_none sought s first n b =
+pub grouped_none : (number : ℕ) (counts : Counts) (defs : Bool) (s : Bytes) (first n : ℕ) → Behind s first → Grouped number counts defs s first n 0 first
+grouped_none number counts defs s first n b =
     let z : n - 0 ≡ n = omega arith in
     record {
       us = [];
@@ -232,22 +232,22 @@ grouped_none sought s first n b =
       few = omega arith;
     }
 
-module _ {sought : Sought} {s : Bytes} {first n count i : ℕ} (g : Grouped sought s first n count i) where
+module _ {number : ℕ} {counts : Counts} {defs : Bool} {s : Bytes} {first n count i : ℕ} (g : Grouped number counts defs s first n count i) where
   pub those_before : Earlier s first count g.us
   unfolding operands_of
   those_before =
       let e : count + 0 ≡ count = omega arith in
       record { rest = fields_behind s i; says = rw (e, append-nil) at (g.so_far 0) }
 
-  module _ {at : ℕ} (p : Passed number_of (within sought.number 9) s at n first) (small : n < 100000) where
+  module _ {at : ℕ} (p : Passed number_of (within number 9) s at n first) (small : n < 100000) where
     -- what the group gives where the operands give a number
     whole : (more : List Bytes → ℕ) {k : ℕ}
-        → operands_passing sought.number (counted sought.counts) sought.defs n [] (fields_behind s first) more ≡ k
-        → group_passing sought.number (counted sought.counts) sought.defs (fields_behind s at) more ≡ suc k
+        → operands_passing number (counted counts) defs n [] (fields_behind s first) more ≡ k
+        → group_passing number (counted counts) defs (fields_behind s at) more ≡ suc k
     unfolding group_passing
     whole more e = passed_on p _ e
 
-    pub grouped_done : n ≤ count → GroupPassed sought s at (1 + 2 * n) i
+    pub grouped_done : n ≤ count → GroupPassed number counts defs s at (1 + 2 * n) i
     unfolding operands_passing
     grouped_done h =
         let z : n - count ≡ 0 = omega arith in
@@ -262,23 +262,23 @@ module _ {sought : Sought} {s : Bytes} {first n count i : ℕ} (g : Grouped soug
       one_left : n - count ≡ suc (n - (count + 1))
       one_left = omega arith
 
-      pub name_stops : Shown name_of (name_test sought g.us) s i → GroupShown sought s at (1 + 2 * count)
+      pub name_stops : Shown name_of (name_test number counts g.us) s i → GroupShown number counts defs s at (1 + 2 * count)
       unfolding operands_passing
       name_stops e = record {
         stops = λ more. whole more (g.gives more ∙ ap (λ (k : ℕ). 2 * count + k) {y = 0} (rw one_left (e.stops _))) ∙ (omega arith);
         few = omega arith;
       }
 
-      module _ (c : ℕ) {mid : ℕ} (name : Passed name_of (name_test sought g.us) s i (name_of_code c) mid) where
-        pub register_stops : Shown allocation_of (register_test sought g.us (name_of_code c)) s mid → GroupShown sought s at (2 + 2 * count)
+      module _ (c : ℕ) {mid : ℕ} (name : Passed name_of (name_test number counts g.us) s i (name_of_code c) mid) where
+        pub register_stops : Shown allocation_of (register_test number counts defs g.us (name_of_code c)) s mid → GroupShown number counts defs s at (2 + 2 * count)
         unfolding operands_passing
         register_stops e = record {
           stops = λ more. whole more (g.gives more ∙ ap (λ (k : ℕ). 2 * count + k) {y = 1} (rw one_left (passed_on name _ (e.stops _)))) ∙ (omega arith);
           few = omega arith;
         }
 
-        pub grouped_more : (r : ℕ) {after : ℕ} → Passed allocation_of (register_test sought g.us (name_of_code c)) s mid (register_of_code r) after
-            → Grouped sought s first n (count + 1) after
+        pub grouped_more : (r : ℕ) {after : ℕ} → Passed allocation_of (register_test number counts defs g.us (name_of_code c)) s mid (register_of_code r) after
+            → Grouped number counts defs s first n (count + 1) after
         unfolding operands_passing operands_of
         grouped_more r {after} reg =
             let u = operand_of_codes c r in
@@ -290,8 +290,8 @@ module _ {sought : Sought} {s : Bytes} {first n count i : ℕ} (g : Grouped soug
                   rw e (g.so_far (suc m) ∙ rw ((operand_read name.field reg.field).says m) (put_last g.us u o));
               gives = λ more.
                   let us = g.us ++ (u ∷ []) in
-                  let S = counted sought.counts in
-                  let k : ℕ = operands_passing sought.number S sought.defs (n - (count + 1)) us (fields_behind s after) more in
+                  let S = counted counts in
+                  let k : ℕ = operands_passing number S defs (n - (count + 1)) us (fields_behind s after) more in
                   g.gives more ∙ ap (λ (k : ℕ). 2 * count + k) {y = suc (suc k)} (rw one_left (passed_on name _ (passed_on reg _ refl))) ∙ (omega arith);
               behind = reg.field.behind;
               few = omega arith;

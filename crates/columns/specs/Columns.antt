@@ -11,7 +11,7 @@ use Rattle.paper.specs.Refusals.{one_byte, allocation_of, operands_of, passing, 
 use Rattle.fields.specs.Fields.{field_at, fields_behind}
 use Rattle.records.specs.Records.{Behind, Next, name_of_code, register_of_code}
 use Rattle.records.specs.Parts.{counted}
-use Rattle.columns.specs.declared.Sought.{Sought}
+use Rattle.loaded.specs.declared.Counts.{Counts}
 use Rattle.columns.specs.declared.Code.{Code}
 use Rattle.columns.specs.declared.Code.TheVariants as held
 use Rattle.columns.specs.declared.Group.{Group}
@@ -52,33 +52,33 @@ unfoldable pub shares : Code → Operand → Bool
 shares (held.Name c) = same_name (name_of_code c)
 shares (held.Register c) = same_reg (register_of_code c)
 
-abbrev pub name_test : Sought → List Operand → Name → Bool
-name_test sought us = λ name. name_within sought.number (counted sought.counts) name && new_name sought.number us name
+abbrev pub name_test : (number : ℕ) → Counts → List Operand → Name → Bool
+name_test number counts us = λ name. name_within number (counted counts) name && new_name number us name
 
-abbrev pub register_test : Sought → List Operand → Name → Option ℕ → Bool
-register_test sought us name = λ reg.
-    reg_within sought.number (counted sought.counts) reg
-    && (new_reg sought.number sought.defs us reg && at_home sought.number name reg)
+abbrev pub register_test : (number : ℕ) → Counts → (defs : Bool) → List Operand → Name → Option ℕ → Bool
+register_test number counts defs us name = λ reg.
+    reg_within number (counted counts) reg
+    && (new_reg number defs us reg && at_home number name reg)
 
-abbrev pub OperandName : Sought → List Operand → Bytes → ℕ → read.Option (ℕ × ℕ) → Type 0
-OperandName sought us s at None = Shown name_of (name_test sought us) s at
-OperandName sought us s at (Some x) = Passed name_of (name_test sought us) s at (name_of_code x.0) x.1
+abbrev pub OperandName : (number : ℕ) → Counts → List Operand → Bytes → ℕ → read.Option (ℕ × ℕ) → Type 0
+OperandName number counts us s at None = Shown name_of (name_test number counts us) s at
+OperandName number counts us s at (Some x) = Passed name_of (name_test number counts us) s at (name_of_code x.0) x.1
 
-abbrev pub OperandRegister : Sought → List Operand → (name : ℕ) → Bytes → ℕ → read.Option (ℕ × ℕ) → Type 0
-OperandRegister sought us name s at None = Shown allocation_of (register_test sought us (name_of_code name)) s at
-OperandRegister sought us name s at (Some x) = Passed allocation_of (register_test sought us (name_of_code name)) s at (register_of_code x.0) x.1
+abbrev pub OperandRegister : (number : ℕ) → Counts → (defs : Bool) → List Operand → (name : ℕ) → Bytes → ℕ → read.Option (ℕ × ℕ) → Type 0
+OperandRegister number counts defs us name s at None = Shown allocation_of (register_test number counts defs us (name_of_code name)) s at
+OperandRegister number counts defs us name s at (Some x) = Passed allocation_of (register_test number counts defs us (name_of_code name)) s at (register_of_code x.0) x.1
 
 -- a group that passes is counted, and what follows it; of any other as many as pass
-pub record GroupPassed (sought : Sought) (s : Bytes) (at count after : ℕ) : Type 0 where
+pub record GroupPassed (number : ℕ) (counts : Counts) (defs : Bool) (s : Bytes) (at count after : ℕ) : Type 0 where
   pub goes_on : (more : List Bytes → ℕ)
-      → group_passing sought.number (counted sought.counts) sought.defs (fields_behind s at) more ≡ count + more (fields_behind s after)
+      → group_passing number (counted counts) defs (fields_behind s at) more ≡ count + more (fields_behind s after)
   pub behind : Behind s after
   pub few : count ≤ 200000
 
-pub record GroupShown (sought : Sought) (s : Bytes) (at count : ℕ) : Type 0 where
-  pub stops : (more : List Bytes → ℕ) → group_passing sought.number (counted sought.counts) sought.defs (fields_behind s at) more ≡ count
+pub record GroupShown (number : ℕ) (counts : Counts) (defs : Bool) (s : Bytes) (at count : ℕ) : Type 0 where
+  pub stops : (more : List Bytes → ℕ) → group_passing number (counted counts) defs (fields_behind s at) more ≡ count
   pub few : count ≤ 200000
 
-abbrev pub GroupPassing : Sought → Bytes → ℕ → Result Group ℕ → Type 0
-GroupPassing sought s at (Ok g) = GroupPassed sought s at g.count g.next
-GroupPassing sought s at (Err count) = GroupShown sought s at count
+abbrev pub GroupPassing : (number : ℕ) → Counts → (defs : Bool) → Bytes → ℕ → Result Group ℕ → Type 0
+GroupPassing number counts defs s at (Ok g) = GroupPassed number counts defs s at g.count g.next
+GroupPassing number counts defs s at (Err count) = GroupShown number counts defs s at count
