@@ -1,5 +1,5 @@
 -- A line by its letter; and of the sheet so far the counts alone matter.
-use mathlib.Core.Path.{◌≡◌, refl, sym, ap, ◌∙◌}
+use mathlib.Core.Path.{◌≡◌, refl, sym, ap}
 use mathlib.Core.Bool.{Bool, true, false, not, ◌&&◌}
 use mathlib.Core.List.{List, []}
 use mathlib.Core.Option.{Option, none, some}

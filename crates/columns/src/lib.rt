@@ -218,12 +218,7 @@ impl<'a> Search<'a> {
     }
 
     // The name of an operand behind `count` others, which stand from `first` on, in one number.
-    fn operand_name(
-        self,
-        at: usize,
-        first: usize,
-        count: usize,
-    ) -> Option<(u32, usize)>
+    fn operand_name(self, at: usize, first: usize, count: usize) -> Option<(u32, usize)>
         requires { Behind self.sheet.now at × Behind self.sheet.now first }
         ensures { (us : List Operand) → Earlier self.entry.sheet.now first count us → OperandName self.entry.number self.entry.counts us self.entry.sheet.now at result }
     {
