@@ -16,7 +16,7 @@ use Rattle.fields.specs.Fields.{fields_behind}
 use Rattle.fields.specs.Cursor.{fields_behind_none}
 use Rattle.records.specs.Records.{Behind}
 use Rattle.columns.specs.Columns.{Shown, Passed}
-use Rattle.columns.specs.Bounds.{before_others, number_test, numbers_most, behind_most}
+use Rattle.columns.specs.Bounds.{before_others, number_test}
 use Rattle.columns.proofs.LawsPassing.{shown_first, shown_second, passed_both, passed_on, rising_as}
 
 module _ (number limit : ℕ) where
@@ -96,8 +96,3 @@ module _ {s : Bytes} {at number limit least count i : ℕ} (c : Counting s at nu
           few = omega (arith, c.few, p.field.further);
           small = omega arith;
         }
-
--- no more than a sheet has bytes
-pub numbers_small : {s : Bytes} {at n : ℕ} (number limit least : ℕ) → Behind s at → n ≡ numbers_passing number limit least (fields_behind s at) → n ≤ 65536
-numbers_small {s} {at} number limit least b e =
-    omega (arith, numbers_most number limit least (fields_behind s at), behind_most s at b.inside, b.size)

@@ -170,4 +170,4 @@ behind_few s at =
     λ t. rw t (omega arith)
 
 -- what passes is few
-pub ruleset few_pass = (behind_few, function_most, typed_most, block_most, pair_most, change_most, operation_most, safepoint_most)
+pub ruleset few_pass = (behind_few, numbers_most, function_most, typed_most, block_most, pair_most, change_most, operation_most, safepoint_most)

@@ -315,6 +315,7 @@ impl<'a> Search<'a> {
     }
 
     // `P inst slot..`.
+    #[tactic(auto, using(crate::specs::Bounds::few_pass))]
     fn passing_safepoint(self, at: usize) -> usize
         requires { Behind self.sheet.now at }
         ensures { result ≡ safepoint_passing self.entry.number (counted self.entry.counts) (fields_behind self.entry.sheet.now at) }

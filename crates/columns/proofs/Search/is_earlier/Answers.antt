@@ -5,14 +5,8 @@ use Rattle.columns.proofs.Search.is_earlier.Goals as goal
 pub loop-init : goal.loop-init
 loop-init c = searching_none _ _ c.requires
 
-pub name_behind-requires : goal.name_behind-requires
-name_behind-requires c = c.loop.invariant.behind
-
 pub returns-in_default : goal.returns-in_default
 returns-in_default c = searching_bad c.loop.invariant c.loop-test.true (name_unread _ _ c.in_default.ensures)
-
-pub allocation_behind-requires : goal.allocation_behind-requires
-allocation_behind-requires c = c.in-Some.ensures.0.behind
 
 pub returns-in_default-allocation_behind : goal.returns-in_default-allocation_behind
 returns-in_default-allocation_behind c =

@@ -9,9 +9,6 @@ use Rattle.columns.proofs.Search.operand_name.Goals.{else-self-eq-OUT_OF_ORDER-v
 pub returns-in_err-name : goal.returns-in_err-name
 returns-in_err-name c us e = rw c.from_residual.ensures (shown_first _ c.in_err-name.ensures)
 
-pub is_earlier-requires : goal.is_earlier-requires
-is_earlier-requires c = c.requires.1
-
 pub returns-then-is_earlier : goal.returns-then-is_earlier
 returns-then-is_earlier c us e =
     let number = c.args.self.number in

@@ -7,9 +7,6 @@ use Rattle.columns.proofs.Search.operand_register.Goals as goal
 pub returns-in_err-register : goal.returns-in_err-register
 returns-in_err-register c us e = rw c.from_residual.ensures (unread c.in_err-register.ensures)
 
-pub register_shows-requires : goal.register_shows-requires
-register_shows-requires c = c.requires.1
-
 pub returns-then-register_shows : goal.returns-then-register_shows
 returns-then-register_shows c us e =
     shown_by c.in_ok-register.ensures.0 (not-true _ (sym (c.register_shows.ensures us e) ∙ c.if-register_shows.true))

@@ -10,15 +10,6 @@ returns-in_default c = record { stops = λ more. c.in_default.ensures.stops _; f
 pub loop-count-init : goal.loop-count-init
 loop-count-init c = grouped_none _ _ _ _ _ _ c.in-Some.ensures.0.field.behind
 
-pub operand_name-requires : goal.operand_name-requires
-operand_name-requires c = (c.loop-count.invariant.behind, c.in-Some.ensures.0.field.behind)
-
-pub overflow_mul-result : goal.overflow_mul-result
-overflow_mul-result c = omega (arith, c.in-Some.ensures.1, c.loop-count-test.true)
-
-pub overflow_add-result : goal.overflow_add-result
-overflow_add-result c = omega (arith, c.in-Some.ensures.1, c.loop-count-test.true)
-
 pub returns-in_default-operand_name : goal.returns-in_default-operand_name
 returns-in_default-operand_name c =
     let g = c.loop-count.invariant in
@@ -29,12 +20,6 @@ pub operand_register-requires : goal.operand_register-requires
 operand_register-requires c =
     let g = c.loop-count.invariant in
     ((c.in-Some-operand_name.ensures g.us (those_before g)).field.behind, c.in-Some.ensures.0.field.behind)
-
-pub overflow_mul-result-in_default-operand_register : goal.overflow_mul-result-in_default-operand_register
-overflow_mul-result-in_default-operand_register c = omega (arith, c.in-Some.ensures.1, c.loop-count-test.true)
-
-pub overflow_add-result-in_default-operand_register : goal.overflow_add-result-in_default-operand_register
-overflow_add-result-in_default-operand_register c = omega (arith, c.in-Some.ensures.1, c.loop-count-test.true)
 
 pub returns-in_default-operand_register : goal.returns-in_default-operand_register
 returns-in_default-operand_register c =
@@ -49,12 +34,6 @@ loop-count-preserved c =
     let m = c.in-Some.ensures in
     let e = those_before g in
     grouped_more g m.0 m.1 c.loop-count-test.true _ (c.in-Some-operand_name.ensures g.us e) _ (c.in-Some-operand_register.ensures g.us e)
-
-pub overflow_mul-result-2 : goal.overflow_mul-result-2
-overflow_mul-result-2 c = omega (arith, c.in-Some.ensures.1)
-
-pub overflow_add-result-2 : goal.overflow_add-result-2
-overflow_add-result-2 c = omega (arith, c.in-Some.ensures.1)
 
 pub returns : goal.returns
 returns c =

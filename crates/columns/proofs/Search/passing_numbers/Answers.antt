@@ -5,12 +5,6 @@ use Rattle.columns.proofs.Search.passing_numbers.Goals as goal
 pub loop-i-init : goal.loop-i-init
 loop-i-init c = counting_none _ _ c.requires
 
-pub bounds-self-i : goal.bounds-self-i
-bounds-self-i c = c.loop-i.invariant.behind.inside
-
-pub passing_number-requires : goal.passing_number-requires
-passing_number-requires c = c.loop-i.invariant.behind
-
 pub returns-in_default : goal.returns-in_default
 returns-in_default c = counting_bad c.loop-i.invariant c.in_default.ensures
 
@@ -18,17 +12,6 @@ pub returns-then-self-v : goal.returns-then-self-v
 returns-then-self-v c =
     let w = c.in-Some.ensures in
     counting_falls c.loop-i.invariant w.0 c.if-self-v.true
-
-pub overflow_add-least : goal.overflow_add-least
-overflow_add-least c = let w = c.in-Some.ensures in omega (arith, w.1)
-
-pub overflow_add-count : goal.overflow_add-count
-overflow_add-count c = omega (arith, c.loop-i.invariant.few, c.loop-i.invariant.behind.inside, c.loop-i.invariant.behind.size)
-
-pub loop-i-smaller : goal.loop-i-smaller
-loop-i-smaller c =
-    let w = c.in-Some.ensures in
-    omega (arith, w.0.field.further, w.0.field.behind.inside)
 
 pub loop-i-preserved : goal.loop-i-preserved
 loop-i-preserved c =

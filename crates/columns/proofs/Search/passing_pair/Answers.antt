@@ -8,9 +8,6 @@ pub returns-in_default : goal.returns-in_default
 unfolding pair_passing
 returns-in_default c = sym (c.in_default.ensures.stops _)
 
-pub passing_number-requires-2 : goal.passing_number-requires-2
-passing_number-requires-2 c = c.in-Some.ensures.0.field.behind
-
 pub returns-in_default-passing_number : goal.returns-in_default-passing_number
 unfolding pair_passing
 returns-in_default-passing_number c =

@@ -3,18 +3,11 @@ use mathlib.Core.Path.{sym, ◌∙◌}
 use native.Mathlib.Omega.{arith}
 use Rattle.paper.specs.Refusals.{safepoint_passing}
 use Rattle.columns.proofs.LawsPassing.{passed_on}
-use Rattle.columns.proofs.LawsNumbers.{numbers_small}
 use Rattle.columns.proofs.Search.passing_safepoint.Goals as goal
 
 pub returns-in_default : goal.returns-in_default
 unfolding safepoint_passing
 returns-in_default c = sym (c.in_default.ensures.stops _)
-
-pub passing_numbers-requires : goal.passing_numbers-requires
-passing_numbers-requires c = c.in-Some.ensures.0.field.behind
-
-pub overflow_add-result : goal.overflow_add-result
-overflow_add-result c = omega (arith, numbers_small _ _ _ c.in-Some.ensures.0.field.behind c.passing_numbers.ensures)
 
 pub returns : goal.returns
 unfolding safepoint_passing
