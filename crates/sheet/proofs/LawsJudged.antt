@@ -1,6 +1,6 @@
 -- A line, from what `records` tells of it beside the sheet so far: it is refused as the paper's reader refuses it, or what it says
 -- is stored.
-use mathlib.Core.Path.{◌≡◌, sym, ap, ◌∙◌, subst}
+use mathlib.Core.Path.{◌≡◌, sym, ap, ◌∙◌}
 use mathlib.Core.List.{List}
 use mathlib.Core.Option.{Option, none, some}
 use Prim.Native.Nat.{ℕ, ◌+◌, ◌<◌}

@@ -1,9 +1,6 @@
-use mathlib.Core.Path.{refl, sym, ◌∙◌}
+use mathlib.Core.Path.{sym, ◌∙◌}
 use Rattle.records.proofs.LawsGroups.{held_past, held_here, held_on}
 use Rattle.records.proofs.any_elsewhere.Goals as goal
-
-pub loop-i-init : goal.loop-i-init
-loop-i-init c = refl
 
 pub returns-then-is_elsewhere : goal.returns-then-is_elsewhere
 returns-then-is_elsewhere c =

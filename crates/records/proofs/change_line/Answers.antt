@@ -6,9 +6,6 @@ use Rattle.records.proofs.LawsTold.{clear_of, judged_by, ill_formed, breaks, pas
 use Rattle.records.proofs.LawsSteps.{change_tested, change_clear, change_within}
 use Rattle.records.proofs.change_line.Goals as goal
 
-pub read_change-requires : goal.read_change-requires
-read_change-requires c = c.requires.0
-
 pub returns-in_default : goal.returns-in_default
 unfolding change_line
 returns-in_default c = record { result_value = λ so p h t. ill_formed so _ c.in_default.ensures; clear = tt }

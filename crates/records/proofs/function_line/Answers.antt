@@ -3,11 +3,7 @@
 use Rattle.paper.specs.Refusals.{blank, so_far_of}
 use Rattle.records.specs.Records.{function_line}
 use Rattle.records.proofs.LawsTold.{clear_of, judged_by, ill_formed, breaks, passes, handed_on, in_place, function_tested, function_says, function_bad, function_within}
-use native.Mathlib.Omega.{arith}
 use Rattle.records.proofs.function_line.Goals as goal
-
-pub read_exactly-requires : goal.read_exactly-requires
-read_exactly-requires c = (c.requires, omega arith)
 
 pub returns-in_default : goal.returns-in_default
 unfolding function_line

@@ -1,4 +1,4 @@
-use mathlib.Core.Path.{refl, sym, ◌∙◌}
+use mathlib.Core.Path.{sym, ◌∙◌}
 use borrow.Author.Tests.{lt-ltb, le-ltb}
 use Rattle.records.specs.Parts.{group_over}
 use Rattle.records.proofs.LawsGroups.{held_past, held_here, held_on}
@@ -7,9 +7,6 @@ use Rattle.records.proofs.group_beyond.Goals as goal
 pub returns-then-count-gt-MAX_OPERANDS : goal.returns-then-count-gt-MAX_OPERANDS
 unfolding group_over
 returns-then-count-gt-MAX_OPERANDS c = rw (lt-ltb _ _ c.if-count-gt-MAX_OPERANDS.true)
-
-pub loop-i-init : goal.loop-i-init
-loop-i-init c = refl
 
 pub returns-then-operand_beyond : goal.returns-then-operand_beyond
 unfolding group_over

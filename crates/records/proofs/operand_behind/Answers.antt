@@ -5,9 +5,6 @@ use Rattle.records.proofs.operand_behind.Goals as goal
 pub returns-in_err-name : goal.returns-in_err-name
 returns-in_err-name c = rw c.from_residual.ensures (no_name _ _ c.in_err-name.ensures)
 
-pub allocation_behind-requires : goal.allocation_behind-requires
-allocation_behind-requires c = c.in_ok-name.ensures.0.behind
-
 pub returns-in_err-register : goal.returns-in_err-register
 returns-in_err-register c = rw c.from_residual-in_err-register.ensures (no_allocation c.in_ok-name.ensures.0 c.in_err-register.ensures)
 

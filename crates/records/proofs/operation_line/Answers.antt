@@ -10,29 +10,17 @@ use Rattle.records.proofs.LawsWords.{small_within, packed, packed_kept, packed_m
 use Rattle.records.proofs.LawsSteps.{operation_no_inst, operation_no_uses, operation_no_defs, operation_too_long, operation_says, operation_ends}
 use Rattle.records.proofs.operation_line.Goals as goal
 
-pub number_behind-requires : goal.number_behind-requires
-number_behind-requires c = c.requires.0
-
 pub returns-in_default : goal.returns-in_default
 unfolding operation_line
 returns-in_default c = record { result_value = λ so p h. ill_formed so _ (operation_no_inst _ _ c.in_default.ensures); clear = tt }
-
-pub read_operands-requires : goal.read_operands-requires
-read_operands-requires c = c.in-Some.ensures.0.behind
 
 pub returns-in_default-read_operands : goal.returns-in_default-read_operands
 unfolding operation_line
 returns-in_default-read_operands c = record { result_value = λ so p h. ill_formed so _ (operation_no_uses c.in-Some.ensures.0 c.in_default-read_operands.ensures); clear = tt }
 
-pub read_operands-requires-2 : goal.read_operands-requires-2
-read_operands-requires-2 c = c.in-Some-read_operands.ensures.behind
-
 pub returns-in_default-read_operands-2 : goal.returns-in_default-read_operands-2
 unfolding operation_line
 returns-in_default-read_operands-2 c = record { result_value = λ so p h. ill_formed so _ (operation_no_defs c.in-Some.ensures.0 c.in-Some-read_operands.ensures c.in_default-read_operands-2.ensures); clear = tt }
-
-pub bounds-s-next : goal.bounds-s-next
-bounds-s-next c = c.in-Some-read_operands-2.ensures.behind.inside
 
 pub returns-then-s-next-ne10 : goal.returns-then-s-next-ne10
 unfolding operation_line
@@ -40,9 +28,6 @@ returns-then-s-next-ne10 c = record {
   result_value = λ so p h. ill_formed so _ (operation_too_long c.in-Some.ensures.0 c.in-Some-read_operands.ensures c.in-Some-read_operands-2.ensures c.if-s-next-ne10.true);
   clear = tt;
 }
-
-pub judge_operation-requires : goal.judge_operation-requires
-judge_operation-requires c = (c.in-Some-read_operands.ensures.kept.room, c.in-Some-read_operands-2.ensures.kept.room)
 
 pub overflow_cast-result : goal.overflow_cast-result
 overflow_cast-result c = omega (arith, c.in_ok-judge_operation.ensures.clear.inst_most)

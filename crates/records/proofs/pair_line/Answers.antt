@@ -2,11 +2,7 @@
 -- anything else is refusal 3.
 use Rattle.records.specs.Records.{pair_line}
 use Rattle.records.proofs.LawsTold.{clear_of, judged_by, ill_formed, breaks, passes, handed_on, in_place, pair_tested, pair_says, pair_bad, pair_within}
-use native.Mathlib.Omega.{arith}
 use Rattle.records.proofs.pair_line.Goals as goal
-
-pub read_exactly-requires : goal.read_exactly-requires
-read_exactly-requires c = (c.requires, omega arith)
 
 pub returns-in_default : goal.returns-in_default
 unfolding pair_line

@@ -6,26 +6,14 @@ use Rattle.records.proofs.read_change.Goals as goal
 pub returns-in_err-inst : goal.returns-in_err-inst
 returns-in_err-inst c = rw c.from_residual.ensures (change_no_inst _ _ c.in_err-inst.ensures)
 
-pub number_behind-requires-2 : goal.number_behind-requires-2
-number_behind-requires-2 c = c.in_ok-inst.ensures.0.behind
-
 pub returns-in_err-slot : goal.returns-in_err-slot
 returns-in_err-slot c = rw c.from_residual-in_err-slot.ensures (change_no_slot c.in_ok-inst.ensures.0 c.in_err-slot.ensures)
-
-pub name_behind-requires : goal.name_behind-requires
-name_behind-requires c = c.in_ok-slot.ensures.0.behind
 
 pub returns-in_err-from : goal.returns-in_err-from
 returns-in_err-from c = rw c.from_residual-in_err-from.ensures (change_no_from c.in_ok-inst.ensures.0 c.in_ok-slot.ensures.0 c.in_err-from.ensures)
 
-pub name_behind-requires-2 : goal.name_behind-requires-2
-name_behind-requires-2 c = c.in_ok-from.ensures.0.behind
-
 pub returns-in_err-to : goal.returns-in_err-to
 returns-in_err-to c = rw c.from_residual-in_err-to.ensures (change_no_to c.in_ok-inst.ensures.0 c.in_ok-slot.ensures.0 c.in_ok-from.ensures.0 c.in_err-to.ensures)
-
-pub bounds-s-next : goal.bounds-s-next
-bounds-s-next c = c.in_ok-to.ensures.0.behind.inside
 
 pub returns-then-s-next-ne10 : goal.returns-then-s-next-ne10
 returns-then-s-next-ne10 c = change_too_long c.in_ok-inst.ensures.0 c.in_ok-slot.ensures.0 c.in_ok-from.ensures.0 c.in_ok-to.ensures.0 c.if-s-next-ne10.true

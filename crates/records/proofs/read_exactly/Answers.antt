@@ -2,9 +2,6 @@
 use Rattle.records.proofs.LawsNumbers.{exactly_none, exactly_not, exactly_read}
 use Rattle.records.proofs.read_exactly.Goals as goal
 
-pub read_numbers-requires : goal.read_numbers-requires
-read_numbers-requires c = c.requires.0
-
 pub returns-in_err-read : goal.returns-in_err-read
 returns-in_err-read c = rw c.from_residual.ensures (exactly_none _ _ _ c.requires.1 c.in_err-read.ensures)
 

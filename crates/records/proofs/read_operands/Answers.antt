@@ -10,9 +10,6 @@ returns-in_err-n c = rw c.from_residual.ensures (group_uncounted _ _ c.in_err-n.
 pub loop-count-init : goal.loop-count-init
 loop-count-init c = grouping_none _ _ _ c.in_ok-n.ensures.0.behind refl refl (λ k. zeros_small 8 k 200000 (omega arith))
 
-pub operand_behind-requires : goal.operand_behind-requires
-operand_behind-requires c = c.loop-count.invariant.behind
-
 pub returns-in_err-name : goal.returns-in_err-name
 returns-in_err-name c =
     rw c.from_residual-in_err-name.ensures (group_bad c.in_ok-n.ensures.0 (grouping_bad c.loop-count.invariant c.loop-count-test.true c.in_err-name.ensures))

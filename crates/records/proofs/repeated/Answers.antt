@@ -1,10 +1,7 @@
-use mathlib.Core.Path.{refl, sym, ◌∙◌}
+use mathlib.Core.Path.{sym, ◌∙◌}
 use Rattle.records.proofs.LawsRepeats.{repeats_past, repeats_above, found_behind, repeats_here, repeats_on}
 use Rattle.records.proofs.repeated.Goals as goal
 use Rattle.records.proofs.repeated.Goals.{else-code-limit-via-then-code-limit+else-contains, else-code-limit-via-else-code-limit}
-
-pub loop-i-init : goal.loop-i-init
-loop-i-init c = refl
 
 pub returns-then-contains : goal.returns-then-contains
 returns-then-contains c =

@@ -7,9 +7,6 @@ use Rattle.records.proofs.LawsTold.{clear_of, judged_by, ill_formed, breaks, pas
 use Rattle.records.proofs.LawsSteps.{safepoint_no_inst, safepoint_bad, safepoint_says, safepoint_ends, safepoint_tested, safepoint_bits, safepoint_within}
 use Rattle.records.proofs.safepoint_line.Goals as goal
 
-pub number_behind-requires : goal.number_behind-requires
-number_behind-requires c = c.requires.0
-
 pub returns-in_default : goal.returns-in_default
 unfolding safepoint_line
 returns-in_default c = record { result_value = λ so p h. ill_formed so _ (safepoint_no_inst _ _ c.in_default.ensures); clear = tt }

@@ -3,11 +3,7 @@
 use borrow.Author.Tests.{leb-false, ltb-false}
 use Rattle.records.specs.Records.{typed_line}
 use Rattle.records.proofs.LawsTold.{clear_of, judged_by, ill_formed, breaks, passes, handed_on, in_place, typed_tested, typed_says, typed_bad}
-use native.Mathlib.Omega.{arith}
 use Rattle.records.proofs.typed_line.Goals as goal
-
-pub read_exactly-requires : goal.read_exactly-requires
-read_exactly-requires c = (c.requires, omega arith)
 
 pub returns-in_default : goal.returns-in_default
 unfolding typed_line
