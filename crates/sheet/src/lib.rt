@@ -37,6 +37,7 @@ fn no_text(sheet: &[u8]) -> bool
 }
 
 // The letter of the line at `at`, or 0 where its first field has not one byte.
+// A number and no option: the paper's `one_byte`, by which `columns::field` is promised too, has 0 for none.
 fn letter(sheet: &[u8], at: usize) -> u8
     requires { SheetText sheet.now × (at < length sheet.now) }
     ensures { result ≡ one_byte (field_at sheet.now at) }

@@ -7,9 +7,6 @@ use Rattle.sheet.proofs.LawsProgress.{size_of}
 use Rattle.sheet.proofs.LawsLoad.{ahead_at_first, line_good, line_further, bad_progress, line_bad, too_few, all_read, no_sheet, cleared_length, cleared_blank, load_from}
 use Rattle.sheet.proofs.load.Goals as goal
 
-pub no_text-requires : goal.no_text-requires
-no_text-requires c = tt
-
 pub returns-then-no_text : goal.returns-then-no_text
 returns-then-no_text c = no_sheet _ _ (sym c.no_text.ensures ∙ c.if-no_text.true)
 

@@ -1,7 +1,6 @@
 -- `sheet::read_block` meets its contract: place and counts in the words are those of the sheet so far, so what `block_line` tells
 -- holds of it; for a good line there is room for a block, so `F` was read, and each successor is below `F`'s count.
 use mathlib.Core.Path.{refl, ap, subst}
-use native.Mathlib.Omega.{arith}
 use Rattle.records.specs.Records.{block_line}
 use Rattle.loaded.specs.Filling.{BlockWithin}
 use Rattle.loaded.specs.declared.Counts.{Counts}
@@ -19,29 +18,16 @@ blocks-requires c = size_of _ c.requires.1
 pub counts_of-counts-requires : goal.counts_of-counts-requires
 counts_of-counts-requires c = size_of _ c.requires.1
 
-pub block_line-requires : goal.block_line-requires
-block_line-requires c = c.requires.0
-
 pub add_block-requires : goal.add_block-requires
 add_block-requires c =
     let room = room_of _ c.requires.1 c.progress-reached.ensures c.blocks-2.ensures c.in_ok-line.ensures.clear.0.placed in
     (begun_by_room _ c.requires.1 room, room, (subst (λ (k : Counts). BlockWithin k.blocks c.in_ok-line.line.count c.in_ok-line.line.succs) c.counts_of-counts.ensures c.in_ok-line.ensures.clear.1))
-
-pub overflow_add-result : goal.overflow_add-result
-overflow_add-result c =
-    omega (arith, c.in_ok-line.ensures.clear.0.inside, c.requires.0.size)
-
-pub shape_of-words-in_err-line : goal.shape_of-words-in_err-line
-shape_of-words-in_err-line c = refl
 
 pub returns-in_err-line : goal.returns-in_err-line
 unfolding block_line
 returns-in_err-line c =
     line_refused (let p = c.requires.1 in
     c.block_line.ensures.by_index (so_far _) (block_placed _ p c.progress-reached.ensures c.blocks-2.ensures) (so_far_counted _ p _ c.counts_of-counts.ensures)) _ c.from_residual.ensures.1 refl (ap block_line c.in_err-line.was)
-
-pub shape_of-words : goal.shape_of-words
-shape_of-words c = c.add_block.ensures.same_length
 
 pub returns : goal.returns
 unfolding block_line

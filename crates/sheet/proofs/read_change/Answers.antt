@@ -32,21 +32,11 @@ add_step-requires c =
     let r = (step_ready c.requires.1 c.step_place-place.ensures c.in_ok-line.ensures.clear.0) in
     (r.some_sheet, r.some_block, r.some_room, change_fits _ c.requires.1 _ _ _ _ (rw c.counts_of-counts.ensures at c.in_ok-line.ensures.clear.1.slot_below))
 
-pub overflow_add-result : goal.overflow_add-result
-overflow_add-result c =
-    omega (arith, c.in_ok-line.ensures.clear.0.inside, c.requires.0.size)
-
-pub shape_of-words-in_err-line : goal.shape_of-words-in_err-line
-shape_of-words-in_err-line c = refl
-
 pub returns-in_err-line : goal.returns-in_err-line
 unfolding change_line region
 returns-in_err-line c =
     line_refused (let p = c.requires.1 in
     c.change_line.ensures.result_value (so_far _) (step_placed _ p _ c.step_place-place.ensures) (so_far_counted _ p _ c.counts_of-counts.ensures) (so_far_typed _ p)) _ c.from_residual.ensures.1 refl (ap change_line c.in_err-line.was)
-
-pub shape_of-words : goal.shape_of-words
-shape_of-words c = c.add_step.ensures.same_length
 
 pub returns : goal.returns
 unfolding change_line step_of region

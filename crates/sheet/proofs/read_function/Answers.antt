@@ -11,9 +11,6 @@ use Rattle.sheet.proofs.read_function.Goals as goal
 pub progress-reached-requires : goal.progress-reached-requires
 progress-reached-requires c = size_of _ c.requires.1
 
-pub function_line-requires : goal.function_line-requires
-function_line-requires c = c.requires.0
-
 pub overflow_cast-line : goal.overflow_cast-line
 overflow_cast-line c = let w = c.in_ok-line.ensures.clear.1 in omega arith
 
@@ -33,20 +30,10 @@ pub store_function-requires : goal.store_function-requires
 store_function-requires c =
     (blank_of _ c.requires.1 c.progress-reached.ensures c.in_ok-line.ensures.clear.0.placed, c.in_ok-line.ensures.clear.1)
 
-pub overflow_add-result : goal.overflow_add-result
-overflow_add-result c =
-    omega (arith, c.in_ok-line.ensures.clear.0.inside, c.requires.0.size)
-
-pub shape_of-words-in_err-line : goal.shape_of-words-in_err-line
-shape_of-words-in_err-line c = refl
-
 pub returns-in_err-line : goal.returns-in_err-line
 unfolding function_line
 returns-in_err-line c =
     line_refused (c.function_line.ensures.result_value (so_far _) (function_placed _ c.requires.1 c.progress-reached.ensures)) _ c.from_residual.ensures.1 refl (ap function_line c.in_err-line.was)
-
-pub shape_of-words : goal.shape_of-words
-shape_of-words c = c.store_function.ensures.same_length
 
 pub returns : goal.returns
 unfolding function_line

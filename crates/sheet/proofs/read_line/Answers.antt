@@ -28,59 +28,29 @@ lined : {s : List ℕ} {at x : ℕ} → SheetText s → at < length s → x ≡ 
     → LineRead (record_of (fields (line_at s at))) s at l l' r
 lined t h e letter is some line = read_by_letter _ _ t h letter (sym e ∙ is) some _ refl line
 
-pub letter-requires : goal.letter-requires
-letter-requires c = (c.requires.0, c.requires.1)
-
-pub overflow_add-at : goal.overflow_add-at
-overflow_add-at c = omega (arith, c.requires.1, c.requires.0.size)
-
 pub read_function-requires : goal.read_function-requires
 read_function-requires c = ready c.requires.0 c.requires.1 c.requires.2 c.letter.ensures 70 c.in-70.is λ z. omega arith
-
-pub overflow_add-at-in-84 : goal.overflow_add-at-in-84
-overflow_add-at-in-84 c = omega (arith, c.requires.1, c.requires.0.size)
 
 pub read_typed-requires : goal.read_typed-requires
 read_typed-requires c = ready c.requires.0 c.requires.1 c.requires.2 c.letter.ensures 84 c.in-84.is λ z. omega arith
 
-pub overflow_add-at-in-66 : goal.overflow_add-at-in-66
-overflow_add-at-in-66 c = omega (arith, c.requires.1, c.requires.0.size)
-
 pub read_block-requires : goal.read_block-requires
 read_block-requires c = ready c.requires.0 c.requires.1 c.requires.2 c.letter.ensures 66 c.in-66.is λ z. omega arith
-
-pub overflow_add-at-in-83 : goal.overflow_add-at-in-83
-overflow_add-at-in-83 c = omega (arith, c.requires.1, c.requires.0.size)
 
 pub read_copy-requires : goal.read_copy-requires
 read_copy-requires c = ready c.requires.0 c.requires.1 c.requires.2 c.letter.ensures 83 c.in-83.is λ z. omega arith
 
-pub overflow_add-at-in-76 : goal.overflow_add-at-in-76
-overflow_add-at-in-76 c = omega (arith, c.requires.1, c.requires.0.size)
-
 pub read_copy-requires-in-76 : goal.read_copy-requires-in-76
 read_copy-requires-in-76 c = ready c.requires.0 c.requires.1 c.requires.2 c.letter.ensures 76 c.in-76.is λ z. omega arith
-
-pub overflow_add-at-in-77 : goal.overflow_add-at-in-77
-overflow_add-at-in-77 c = omega (arith, c.requires.1, c.requires.0.size)
 
 pub read_copy-requires-in-77 : goal.read_copy-requires-in-77
 read_copy-requires-in-77 c = ready c.requires.0 c.requires.1 c.requires.2 c.letter.ensures 77 c.in-77.is λ z. omega arith
 
-pub overflow_add-at-in-67 : goal.overflow_add-at-in-67
-overflow_add-at-in-67 c = omega (arith, c.requires.1, c.requires.0.size)
-
 pub read_change-requires : goal.read_change-requires
 read_change-requires c = ready c.requires.0 c.requires.1 c.requires.2 c.letter.ensures 67 c.in-67.is λ z. omega arith
 
-pub overflow_add-at-in-79 : goal.overflow_add-at-in-79
-overflow_add-at-in-79 c = omega (arith, c.requires.1, c.requires.0.size)
-
 pub read_operation-requires : goal.read_operation-requires
 read_operation-requires c = ready c.requires.0 c.requires.1 c.requires.2 c.letter.ensures 79 c.in-79.is λ z. omega arith
-
-pub overflow_add-at-in-80 : goal.overflow_add-at-in-80
-overflow_add-at-in-80 c = omega (arith, c.requires.1, c.requires.0.size)
 
 pub read_safepoint-requires : goal.read_safepoint-requires
 read_safepoint-requires c = ready c.requires.0 c.requires.1 c.requires.2 c.letter.ensures 80 c.in-80.is λ z. omega arith

@@ -36,22 +36,11 @@ add_operation-requires c =
     c.in_ok-line.ensures.clear.1 in
     (r.some_sheet, r.some_block, r.some_room, w.uses_within (sheet_of words) (counted_of words) (typed_by words), w.defs_within (sheet_of words) (counted_of words) (typed_by words))
 
-pub overflow_add-result : goal.overflow_add-result
-unfolding region
-overflow_add-result c =
-    omega (arith, c.in_ok-line.ensures.clear.0.inside, c.requires.0.size)
-
-pub shape_of-words-in_err-line : goal.shape_of-words-in_err-line
-shape_of-words-in_err-line c = refl
-
 pub returns-in_err-line : goal.returns-in_err-line
 unfolding operation_line
 returns-in_err-line c =
     line_refused (let p = c.requires.1 in
     c.operation_line.ensures.result_value (so_far _) (step_placed _ p _ c.step_place-place.ensures) (so_far_counted _ p _ c.counts_of-counts.ensures)) _ c.from_residual.ensures.1 refl (ap operation_line c.in_err-line.was)
-
-pub shape_of-words : goal.shape_of-words
-shape_of-words c = c.add_operation.ensures.same_length
 
 pub returns : goal.returns
 unfolding operation_line region

@@ -15,9 +15,6 @@ progress-reached-requires c = size_of _ c.requires.1
 pub counts_of-counts-requires : goal.counts_of-counts-requires
 counts_of-counts-requires c = size_of _ c.requires.1
 
-pub typed_line-requires : goal.typed_line-requires
-typed_line-requires c = c.requires.0
-
 pub overflow_cast-line : goal.overflow_cast-line
 overflow_cast-line c = omega (arith, (rw c.counts_of-counts.ensures at c.in_ok-line.ensures.clear.1.name_below), (within_by _ _ c.counts_of-counts.ensures c.requires.1).vregs)
 
@@ -27,21 +24,11 @@ add_typed-requires c =
     let q = typed_ready _ c.requires.1 e c.in_ok-line.ensures.clear.0.placed in
     (q.0, q.1, (rw c.counts_of-counts.ensures at c.in_ok-line.ensures.clear.1.name_below), omega (arith, ap (λ (r : Reached). r.least) e, c.in_ok-line.ensures.clear.1.name_ascends))
 
-pub overflow_add-result : goal.overflow_add-result
-overflow_add-result c =
-    omega (arith, c.in_ok-line.ensures.clear.0.inside, c.requires.0.size)
-
-pub shape_of-words-in_err-line : goal.shape_of-words-in_err-line
-shape_of-words-in_err-line c = refl
-
 pub returns-in_err-line : goal.returns-in_err-line
 unfolding typed_line
 returns-in_err-line c =
     line_refused (let p = c.requires.1 in
     c.typed_line.ensures.by_index (so_far _) (typed_placed _ p c.progress-reached.ensures) (so_far_counted _ p _ c.counts_of-counts.ensures) (so_far_least _ p c.progress-reached.ensures)) _ c.from_residual.ensures.1 refl (ap typed_line c.in_err-line.was)
-
-pub shape_of-words : goal.shape_of-words
-shape_of-words c = c.add_typed.ensures.same_length
 
 pub returns : goal.returns
 unfolding typed_line
