@@ -413,12 +413,14 @@ pub fn write_back(sheet: &[u8], words: &mut [u16], out: &mut [u8]) -> Result<usi
     if words.len() < WORDS_SIZE {
         return Err(Unwritten::NoSheet);
     }
-    let Ok(()) = load_sheet(sheet, words) else {
-        return Err(Unwritten::NoSheet);
-    };
-    let written = write_sheet(words, out);
-    scratch::clear(words);
-    written
+    match load_sheet(sheet, words) {
+        Err(_) => Err(Unwritten::NoSheet),
+        Ok(()) => {
+            let written = write_sheet(words, out);
+            scratch::clear(words);
+            written
+        }
+    }
 }
 
 impl From<Result<(), Refusal>> for LoadVerdict {
