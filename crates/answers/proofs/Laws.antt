@@ -1,11 +1,11 @@
 -- What a request is answered with, by what the code looks at: its length, its first byte, what stands behind it.
-use Rattle.std.proofs.Common.{◌≡◌, refl, ap, sym, ◌∙◌, [], ◌∷◌, ℕ, ◌-◌, arith, length, get_or, take, drop, length-drop, take_all, None, Some}
+use Rattle.std.proofs.Common.{◌≡◌, refl, ap, sym, ◌∙◌, [], ◌∷◌, ℕ, arith, length, None, Some}
 use Rattle.paper.specs.Text.{Bytes}
 use Rattle.paper.specs.Limits.{report_size, sealed_size}
 use Rattle.paper.specs.Answer.{Lent, answer, written}
 use Rattle.paper.specs.Seal.{sealed_said}
 use Rattle.paper.specs.declared.Rule.{Rule}
-use Rattle.checker.specs.Checked.{Stated, text_outcome}
+use Rattle.checker.specs.Checked.{Stated}
 use Rattle.answers.specs.Request.{rule_asked, texted, reply_under, reply_outcome, Replied}
 use Rattle.answers.specs.declared.Asked.TheVariants.{For, Sealed}
 

@@ -1,5 +1,5 @@
 -- A request is the letter of a rule, in upper case for a sealed report, and a sheet; what it is answered with.
-use Rattle.std.specs.Prelude.{◌≡◌, List, [], ◌∷◌, cond, ℕ, ◌≤◌, eqb, length, Option, None, Some, IfSome}
+use Rattle.std.specs.Prelude.{◌≡◌, [], ◌∷◌, cond, ℕ, ◌≤◌, eqb, length, Option, None, Some, IfSome}
 use Rattle.paper.specs.Text.{Bytes}
 use Rattle.paper.specs.Limits.{report_size, sealed_size}
 use Rattle.paper.specs.Answer.{Lent, answer, written}

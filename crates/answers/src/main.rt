@@ -35,12 +35,7 @@ fn rule_asked(letter: u8) -> Option<Asked>
 }
 
 // The answer to a request, at the start of the report: its length, if the request asks for a rule.
-fn reply_to(
-    request: &[u8],
-    report: &mut [u8],
-    words: &mut [u16],
-    queue: &mut [u8],
-) -> Option<usize>
+fn reply_to(request: &[u8], report: &mut [u8], words: &mut [u16], queue: &mut [u8]) -> Option<usize>
     ensures { Replied request.now (lent report.old words.old queue.old) (lent report.new words.new queue.new) result }
 {
     let (&letter, sheet) = request.split_first()?;
@@ -75,5 +70,9 @@ fn answer_all<R: Read, W: Write>(input: &mut R, output: &mut W) -> io::Result<()
 }
 
 fn main(rt: HostRuntime) {
-    frames::explain(&rt, "answers", answer_all(&mut rt.stdin(), &mut rt.stdout()));
+    frames::explain(
+        &rt,
+        "answers",
+        answer_all(&mut rt.stdin(), &mut rt.stdout()),
+    );
 }

@@ -11,7 +11,6 @@ use Rattle.lists.specs.Split.{by_equal}
 use Rattle.paper.specs.Text.{Bytes, line_feed}
 use Rattle.fields.specs.Fields.{number_at, end_at}
 use Rattle.fields.specs.declared.End as End
-use Rattle.fields.specs.declared.End.TheVariants as end
 use Rattle.frames.specs.Frame.{hash, length_ended, length_behind, length_of, LineLeft}
 
 -- a line

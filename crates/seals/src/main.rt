@@ -20,7 +20,12 @@ fn write_answer<W: Write>(output: &mut W, text: &[u8]) -> io::Result<()> {
 // Every text, to the end of the input.
 fn verify_all<R: Read, W: Write>(input: &mut R, output: &mut W) -> io::Result<()> {
     let mut text = [0u8; LONGEST_TEXT];
-    frames::each(input, output, &mut text, |output, text| write_answer(output, text))
+    frames::each(
+        input,
+        output,
+        &mut text,
+        |output, text| write_answer(output, text),
+    )
 }
 
 fn main(rt: HostRuntime) {

@@ -45,7 +45,9 @@ pub fn counted(tally: Tally, outcome: Outcome) -> Tally
     ensures { result ≡ told.counted tally outcome }
 {
     let Tally {
-        same, different, ..
+        same,
+        different,
+        ..
     } = tally;
     match outcome {
         Outcome::Same => Tally {
@@ -69,7 +71,9 @@ pub fn counted(tally: Tally, outcome: Outcome) -> Tally
 // Writes how many sheets were the same, and how many differ.
 pub fn say<W: Write>(output: &mut W, tally: Tally) -> io::Result<()> {
     let Tally {
-        same, different, ..
+        same,
+        different,
+        ..
     } = tally;
     writeln!(output, "{same} sheets the same, {different} different")
 }
