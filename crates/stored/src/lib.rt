@@ -44,37 +44,28 @@ fn next(n: u64) -> u64
 pub fn counted(tally: Tally, outcome: Outcome) -> Tally
     ensures { result ≡ told.counted tally outcome }
 {
-    let Tally {
-        same,
-        different,
-        ..
-    } = tally;
     match outcome {
         Outcome::Same => Tally {
-            same: next(same),
-            different,
+            same: next(tally.same),
             more: true,
+            ..tally
         },
         Outcome::Different => Tally {
-            same,
-            different: next(different),
+            different: next(tally.different),
             more: true,
+            ..tally
         },
         Outcome::End => Tally {
-            same,
-            different,
             more: false,
+            ..tally
         },
     }
 }
 
 // Writes how many sheets were the same, and how many differ.
 pub fn say<W: Write>(output: &mut W, tally: Tally) -> io::Result<()> {
-    let Tally {
-        same,
-        different,
-        ..
-    } = tally;
+    let same = tally.same;
+    let different = tally.different;
     writeln!(output, "{same} sheets the same, {different} different")
 }
 
