@@ -1,8 +1,8 @@
 -- From the parts to the text: a line of its parts, a step's line by its action, a block's lines, all lines; and what the reader's answer
 -- to it says.
-use Rattle.std.specs.Prelude.{is_ok, Ok, Err}
+use Rattle.std.specs.Prelude.{is_ok}
 use mathlib.Core.Path.{◌≡◌, refl, sym, ap, ◌∙◌}
-use mathlib.Core.Bool.{true, false}
+use mathlib.Core.Bool.{true}
 use mathlib.Core.List.{List, [], ◌∷◌, ◌++◌, map, append-nil, append_assoc}
 use Prim.Native.Nat.{ℕ, suc, zero, ◌+◌, ◌-◌, ◌*◌, ◌≤◌, ◌<◌}
 use native.Mathlib.Nat.{add-zero, zero-add}
@@ -22,7 +22,6 @@ use Rattle.paper.specs.Limits.{max_blocks, max_succs, max_steps, words_size}
 use Rattle.paper.specs.Refusals.{typed_record, block_record, step_record, Reading, loaded, refused}
 use Rattle.paper.specs.Report.{behind_tabs}
 use Rattle.paper.specs.Writing.{operand_texts, letter_of, texts_of, record_text, records_text, block_records, records_of, sheet_text, is_read}
-use Rattle.paper.specs.declared.Refusal.{Refusal}
 use Rattle.layout.specs.Layout.{operand_base, operand_words, typed_base, typed_words, opened_word, defs_from, succ_base}
 use Rattle.cells.specs.Packed.{name_of_word}
 use Rattle.loaded.specs.Actions.{operand_of, operands, copy_step, step_of, action_at, steps_at}

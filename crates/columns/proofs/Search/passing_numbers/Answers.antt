@@ -1,4 +1,3 @@
-use native.Mathlib.Omega.{arith}
 use Rattle.columns.proofs.LawsNumbers.{counting_none, counting_bad, counting_done, counting_falls, counting_more}
 use Rattle.columns.proofs.Search.passing_numbers.Goals as goal
 
