@@ -71,10 +71,8 @@ fn write_row(out: &mut [u8], at: usize, words: &[u16], from: usize, n: usize) ->
     ensures { Wrote out.old at (row_text from n words.now) out.new result × (result ≤ at + (1 + longest_cell) * n) }
 {
     let mut next = at;
-    let mut i = 0;
-    while i < n {
-        next = write_cell(out, next, words[from + i]);
-        i += 1;
+    for &cell in &words[from..from + n] {
+        next = write_cell(out, next, cell);
     }
     next
 }
@@ -122,10 +120,8 @@ fn write_blocks(rule: Rule, words: &[u16], out: &mut [u8]) -> usize
 {
     let blocks = loaded::blocks(words);
     let mut next = 0;
-    let mut b = 0;
-    while b < blocks {
+    for b in 0..blocks {
         next = write_block(rule, words, out, next, b);
-        b += 1;
     }
     next
 }

@@ -14,9 +14,6 @@ loop-b-init c = (omega arith, omega arith, refl, blocks_none _ _ _)
 pub write_block-next-requires : goal.write_block-next-requires
 write_block-next-requires c = (c.requires.0, omega arith, omega (arith, c.requires.0.loaded.bounds.blocks))
 
-pub overflow_add-b : goal.overflow_add-b
-overflow_add-b c = omega (arith, c.requires.0.loaded.bounds.blocks)
-
 pub loop-b-preserved : goal.loop-b-preserved
 loop-b-preserved c = (omega arith, omega arith, omega arith, blocks_then _ _ _ c.loop-b.invariant.3 c.write_block-next.ensures.0)
 

@@ -12,6 +12,3 @@ use Rattle.states.proofs.write_blocks.Given as goal
 abbrev pub invariant-loop-b : goal.invariant-loop-b
 invariant-loop-b l =
     (l.b ≤ l.blocks) × (l.next ≤ longest_line * l.b) × (length l.out ≡ length l.initial.out) × Wrote l.initial.out 0 (by_block (block_text l.rule (sheet_of l.words)) 0 l.b) l.out l.next
-
-abbrev pub decreases-loop-b : goal.decreases-loop-b
-decreases-loop-b l = l.blocks - l.b
