@@ -326,32 +326,43 @@ pub fn rest<'a>(first: &'a [u8], second: &'a [u8]) -> &'a [u8]
     }
 }
 
+impl From<Compared> for Judgement {
+    ghost use Rattle.std.specs.Prelude.{◌≡◌};
+    ghost use Rattle.compare.specs.Places.{judgement_of};
+
+    ghost from_gives = { λ compared judgement. judgement ≡ judgement_of compared };
+
+    #[tactic(auto, unfolding(crate::specs::Places::judgement_of))]
+    fn from(compared: Compared) -> Judgement {
+        match compared {
+            Compared::Equal => Judgement {
+                answer: 0,
+                side: 0,
+                line: 0,
+                place: 0,
+            },
+            Compared::Parts { line, place } => Judgement {
+                answer: 1,
+                side: 0,
+                line,
+                place,
+            },
+            Compared::Malformed { side, line } => Judgement {
+                answer: 2,
+                side,
+                line,
+                place: 0,
+            },
+        }
+    }
+}
+
 // Compares two reports, for C.
 #[unsafe(no_mangle)]
 pub extern "C" fn itanropen_compare(first: &[u8], second: &[u8]) -> Judgement
     ensures { result ≡ judgement_of (compared first.now second.now) }
 {
-    let compared = compare(first, second);
-    match compared {
-        Compared::Equal => Judgement {
-            answer: 0,
-            side: 0,
-            line: 0,
-            place: 0,
-        },
-        Compared::Parts { line, place } => Judgement {
-            answer: 1,
-            side: 0,
-            line,
-            place,
-        },
-        Compared::Malformed { side, line } => Judgement {
-            answer: 2,
-            side,
-            line,
-            place: 0,
-        },
-    }
+    Judgement::from(compare(first, second))
 }
 
 // `D line`, at the start of the room.
