@@ -26,6 +26,7 @@ use Rattle.paper.specs.Comparison.{Shape, same_text, fits, fault_shape, fault_sh
 use Rattle.compare.specs.Places.{shape_of, shapes_of, shapes_of_lines, place_told, field_place, behind_place, line_place, header_told, line_found}
 use Rattle.paper.specs.declared.Compared.{Compared}
 use Rattle.paper.specs.declared.Compared.TheVariants.{Malformed}
+use Rattle.paper.specs.declared.Side.TheVariants.{First, Second}
 use Rattle.compare.specs.Pieces.{pieces_none, pieces_some, not_empty}
 
 -- what a place tells
@@ -511,12 +512,12 @@ line_none (suc n) e = absurd (let z : ◌≡◌ {A = ℕ} 0 1 = cc e in omega ar
 -- two reports
 
 module _ (first second : Bytes) where
-  pub first_bad : {bad : ℕ} → bad ≡ bad_line first → (bad ≡ 0 → ⊥) → Malformed 1 bad ≡ compared first second
+  pub first_bad : {bad : ℕ} → bad ≡ bad_line first → (bad ≡ 0 → ⊥) → Malformed First bad ≡ compared first second
   unfolding compared refused_or
   first_bad e d = rw (← e, ne_eqb _ 0 d)
 
   module _ {bad : ℕ} (good : bad ≡ bad_line first) (zero : bad ≡ 0) where
-    pub second_bad : {worse : ℕ} → worse ≡ bad_line second → (worse ≡ 0 → ⊥) → Malformed 2 worse ≡ compared first second
+    pub second_bad : {worse : ℕ} → worse ≡ bad_line second → (worse ≡ 0 → ⊥) → Malformed Second worse ≡ compared first second
     unfolding compared refused_or
     second_bad e d = rw (← good, zero, ← e, ne_eqb _ 0 d)
 

@@ -18,13 +18,6 @@ use Rattle.paper.specs.Comparison.{compared, longer, rest_of}
 use Rattle.paper.specs.declared.Compared.{Compared}
 use Rattle.compare.specs.Written.{said_text, compared_text, longest_report, longest_text, no_room, text_left, Told}
 
--- a text that was copied to a part of the room as long as it
-pub copied : (l text part : List ℕ) (at n : ℕ) → part ≡ text → n ≡ length text → at + length text ≤ length l → Wrote l at text (put_mid at n l part) (at + length text)
-copied l text part at n is size h = record {
-  list = rw (is, size, sets-eq text l at h, drop-drop (length text) at l) (sym (append_assoc (take at l) text (drop (at + length text) l)));
-  next = refl;
-}
-
 -- room
 
 module _ (first second : Bytes) (out : List ℕ) where

@@ -5,7 +5,7 @@ use Rattle.std.specs.Borrow.{Bor}
 use Rattle.paper.specs.Text.{Bytes, tab, line_feed, fields, letter_r}
 use Rattle.paper.specs.Report.{letter_s}
 use Rattle.fields.specs.Fields.{field_at, field_end, line_at, line_end, number_told}
-use Rattle.paper.specs.Comparison.{Shape, same_text, a_number, a_name, lettered, count_of, compared, longer, rest_place, rest_of}
+use Rattle.paper.specs.Comparison.{side_number, Shape, same_text, a_number, a_name, lettered, count_of, compared, longer, rest_place, rest_of}
 use Rattle.compare.specs.declared.Shape as Field
 use Rattle.compare.specs.declared.Shape.TheVariants.{Number, Name, Register, Slot, Byte}
 use Rattle.paper.specs.declared.Compared.{Compared}
@@ -82,7 +82,7 @@ HeaderWithin s (Some x) = x.1 < length s
 abbrev pub ComparedWithin : Bytes → Bytes → Compared → Type 0
 ComparedWithin first second Equal = Unit {0}
 ComparedWithin first second (Parts line place) = (place ≤ length first) × (place ≤ length second) × (line ≤ length first + 1)
-ComparedWithin first second (Malformed side line) = (side ≤ 2) × (line ≤ length first + length second + 1)
+ComparedWithin first second (Malformed side line) = line ≤ length first + length second + 1
 
 -- r is the part of a lent report from a place to its end: its bytes, and where they stand in memory. A part, not a copy
 pub record PartOf (s : Bor (List ℕ)) (from : ℕ) (r : Bor (List ℕ)) : Type 0 where
@@ -103,4 +103,4 @@ pub record Handed (first second r : Bor (List ℕ)) : Type 0 where
 unfoldable pub judgement_of : Compared → Judgement
 judgement_of Equal = record { answer = 0; side = 0; line = 0; place = 0 }
 judgement_of (Parts line place) = record { answer = 1; side = 0; line = line; place = place }
-judgement_of (Malformed side line) = record { answer = 2; side = side; line = line; place = 0 }
+judgement_of (Malformed side line) = record { answer = 2; side = side_number side; line = line; place = 0 }

@@ -4,7 +4,7 @@ use Rattle.std.specs.Prelude.{◌≡◌, Bool, cond, ◌||◌, List, [], ◌∷�
 use Rattle.paper.specs.Text.{Bytes, digits}
 use Rattle.paper.specs.Report.{behind_tabs}
 use Rattle.paper.specs.Answer.{laid}
-use Rattle.paper.specs.Comparison.{compared, rest_of}
+use Rattle.paper.specs.Comparison.{side_number, compared, rest_of}
 use Rattle.paper.specs.declared.Compared.{Compared}
 use Rattle.paper.specs.declared.Compared.TheVariants.{Equal, Parts, Malformed}
 
@@ -23,7 +23,7 @@ malformed_text side line = letter_M ∷ behind_tabs (digits side ∷ digits line
 unfoldable pub said_text : Compared → Bytes → Bytes
 said_text Equal rest = parted_text 0
 said_text (Parts line place) rest = parted_text line ++ rest
-said_text (Malformed side line) rest = malformed_text side line
+said_text (Malformed side line) rest = malformed_text (side_number side) line
 
 unfoldable pub compared_text : Bytes → Bytes → Bytes
 compared_text first second = said_text (compared first second) (rest_of first second)

@@ -12,7 +12,7 @@ ghost use Rattle.compare.specs.Written.{parted_text, malformed_text, compared_te
 
 use Shape::{Byte, Name, Number, Register, Slot};
 use fields::End;
-use paper::Compared;
+use paper::{Compared, Side};
 
 // What two reports come to, over the C interface: 0 equal, 1 they part, 2 malformed.
 #[repr(C)]
@@ -284,10 +284,16 @@ pub fn compare(first: &[u8], second: &[u8]) -> Compared
     ensures within { ComparedWithin first.now second.now result }
 {
     if let Some(line) = bad_line(first) {
-        return Compared::Malformed { side: 1, line };
+        return Compared::Malformed {
+            side: Side::First,
+            line,
+        };
     }
     if let Some(line) = bad_line(second) {
-        return Compared::Malformed { side: 2, line };
+        return Compared::Malformed {
+            side: Side::Second,
+            line,
+        };
     }
     part(first, second)
 }
@@ -349,7 +355,7 @@ impl From<Compared> for Judgement {
             },
             Compared::Malformed { side, line } => Judgement {
                 answer: 2,
-                side,
+                side: u8::from(side),
                 line,
                 place: 0,
             },
@@ -386,16 +392,6 @@ fn write_malformed(out: &mut [u8], side: u32, line: u32) -> usize
     fields::write_byte(out, c, b'\n')
 }
 
-// A text, at a place of the room.
-fn write_text(out: &mut [u8], at: usize, text: &[u8]) -> usize
-    requires { at + length text.now ≤ length out.old }
-    ensures { Wrote out.old at text.now out.new result }
-{
-    let end = at + text.len();
-    out[at..end].copy_from_slice(text);
-    end
-}
-
 // Is a report too long, or the room for the text too short?
 fn no_room(first: &[u8], second: &[u8], out: &[u8]) -> bool
     ensures { result ≡ no_room first.now second.now out.now }
@@ -421,8 +417,8 @@ pub fn compared_text<'a>(first: &'a [u8], second: &'a [u8], out: &mut [u8]) -> u
         Compared::Equal => write_parted(out, 0),
         Compared::Parts { line, place } => {
             let end = write_parted(out, line as u32);
-            write_text(out, end, rest(first, second))
+            fields::write_text(out, end, rest(first, second))
         }
-        Compared::Malformed { side, line } => write_malformed(out, side as u32, line as u32),
+        Compared::Malformed { side, line } => write_malformed(out, u8::from(side) as u32, line as u32),
     }
 }

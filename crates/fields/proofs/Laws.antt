@@ -1,13 +1,16 @@
 -- What the loop of `read_number` holds, and what each way out of it tells; and the room of a number written digit by digit.
 use mathlib.Core.Path.{◌≡◌, refl, sym, ◌∙◌}
 use mathlib.Core.Bool.{true, false, and-false}
-use mathlib.Core.List.{[], ◌∷◌, ◌++◌, append-nil, append_assoc}
+use mathlib.Core.List.{List, [], ◌∷◌, ◌++◌, append-nil, append_assoc}
 use mathlib.Core.Option.{none}
 use Rattle.std.specs.Prelude.{Some, None}
 use Prim.Native.Nat.{ℕ, suc, ◌+◌, ◌-◌, ◌*◌, ◌/◌, ◌%◌, ◌≤◌, ◌<◌}
 use native.Mathlib.Omega.{arith}
 use borrow.Author.Tests.{lt-ltb, le-leb, lt-leb}
-use lib.ListN.{length, get_or, length-append}
+use lib.ListN.{length, get_or, take, drop, length-append}
+use lib.Seq.{drop-drop, sets-eq}
+use borrow.Rule.Slice.PartMut.{put_mid}
+use Rattle.lists.specs.Sets.{Wrote}
 use Rattle.lists.specs.Split.{by_test, by_order}
 use Rattle.paper.specs.Text.{Bytes, is_digit, all_digits, leading_zero, is_number, number_of, digit_from, digits}
 use Rattle.fields.specs.Fields.{ends_field, field_at, field_end, number_told, number_at, Within}
@@ -159,3 +162,10 @@ pub digits_room : (v at n : ℕ) → at + length (digits v) ≤ n
     → at + (length (digit_from 10000 v) + length (digit_from 1000 v) + length (digit_from 100 v) + length (digit_from 10 v) + 1) ≤ n
 unfolding digits
 digits_room v at n h = simp length-append at h
+
+-- a text copied to a part of the buffer as long as it
+pub copied : (l text part : List ℕ) (at n : ℕ) → part ≡ text → n ≡ length text → at + length text ≤ length l → Wrote l at text (put_mid at n l part) (at + length text)
+copied l text part at n is size h = record {
+  list = rw (is, size, sets-eq text l at h, drop-drop (length text) at l) (sym (append_assoc (take at l) text (drop (at + length text) l)));
+  next = refl;
+}

@@ -129,6 +129,10 @@ unfolding unbroken name_text name_made ends_field
 unbroken_name true n h = unbroken_number n h
 unbroken_name false n h = unbroken_number n h
 
+name_told_made : (is_real : Bool) (n i : ℕ) → name_told i (some (name_made is_real n)) ≡ Some (name_read (name_made is_real n), i)
+unfolding name_told
+name_told_made is_real n i = refl
+
 module _ {l l' : Bytes} {at i : ℕ} (h : i ≤ length l) (e : field_at l i ≡ []) where
   pub number_written : {v : ℕ} → Wrote l at (digits v) l' i → v < 100000 → number_at l' at ≡ Some (v, i)
   unfolding number_at number_told field_end
@@ -137,7 +141,7 @@ module _ {l l' : Bytes} {at i : ℕ} (h : i ≤ length l) (e : field_at l i ≡ 
       rw (f, number_of_digits v small, w.next)
 
   pub name_written : (is_real : Bool) {n : ℕ} → Wrote l at (name_text (name_made is_real n)) l' i → n < 100000 → name_at l' at ≡ Some (name_read (name_made is_real n), i)
-  unfolding name_at name_told field_end
+  unfolding name_at field_end
   name_written is_real {n} w small =
       let f : field_at l' at ≡ name_text (name_made is_real n) = field_written w h (unbroken_name is_real n small) e in
-      rw (f, name_of_text is_real n small, ← w.next)
+      rw (f, name_of_text is_real n small, ← w.next) (name_told_made is_real n i)

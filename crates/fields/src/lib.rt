@@ -122,6 +122,16 @@ pub fn write_byte(out: &mut [u8], at: usize, b: u8) -> usize
     at + 1
 }
 
+// A text, at a place of a buffer.
+pub fn write_text(out: &mut [u8], at: usize, text: &[u8]) -> usize
+    requires { at + length text.now ≤ length out.old }
+    ensures { Wrote out.old at text.now out.new result }
+{
+    let end = at + text.len();
+    out[at..end].copy_from_slice(text);
+    end
+}
+
 // The digit of `v` at a unit of ten, where the number reaches it.
 fn write_digit(out: &mut [u8], at: usize, v: u32, unit: u32) -> usize
     requires { (0 < unit) × (at + length (digit_from unit v) ≤ length out.old) }

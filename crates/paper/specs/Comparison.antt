@@ -10,6 +10,8 @@ use Rattle.paper.specs.Report.{letter_s, nothing, letter_E, letter_N, letter_R, 
 use Rattle.paper.specs.declared.Rule.TheVariants.{Old, House}
 use Rattle.paper.specs.declared.Compared.{Compared}
 use Rattle.paper.specs.declared.Compared.TheVariants.{Equal, Parts, Malformed}
+use Rattle.paper.specs.declared.Side.{Side}
+use Rattle.paper.specs.declared.Side.TheVariants.{First, Second}
 
 -- which texts may stand in a field
 abbrev pub Shape : Type 0
@@ -121,14 +123,19 @@ parting line place [] (m ∷ ms) = Parts line place
 parting line place (l ∷ ls) [] = Parts line place
 parting line place (l ∷ ls) (m ∷ ms) = cond (same_line l ls m ms) (parting (suc line) (place + suc (length l)) ls ms) (Parts line place)
 
+-- a report's side as a number
+unfoldable pub side_number : Side → ℕ
+side_number First = 1
+side_number Second = 2
+
 -- "A malformed report is refused with its side and first bad line"
-unfoldable pub refused_or : (side bad : ℕ) → Compared → Compared
+unfoldable pub refused_or : Side → (bad : ℕ) → Compared → Compared
 refused_or side bad otherwise = cond (eqb bad 0) otherwise (Malformed side bad)
 
 -- "the first report being judged first"
 unfoldable pub compared : Bytes → Bytes → Compared
 compared first second =
-    refused_or 1 (bad_line first) (refused_or 2 (bad_line second) (parting 1 0 (pieces first) (pieces second)))
+    refused_or First (bad_line first) (refused_or Second (bad_line second) (parting 1 0 (pieces first) (pieces second)))
 
 -- "the longer report"; "of two equally long, the first"
 unfoldable pub longer : Bytes → Bytes → Bytes

@@ -46,13 +46,35 @@ pub enum Answer {
     Refused(Refusal),
 }
 
+// Which of two reports: over the C interface and in what is written side 1 and side 2.
+#[derive(Clone, Copy, PartialEq, Eq)]
+pub enum Side {
+    First,
+    Second,
+}
+
+impl From<Side> for u8 {
+    ghost use Rattle.std.specs.Prelude.{◌≡◌};
+    ghost use Rattle.paper.specs.Comparison.{side_number};
+
+    ghost from_gives = { λ side number. number ≡ side_number side };
+
+    #[tactic(auto, unfolding(crate::specs::Comparison::side_number))]
+    fn from(side: Side) -> u8 {
+        match side {
+            Side::First => 1,
+            Side::Second => 2,
+        }
+    }
+}
+
 // What two reports come to: equal; they part, at a line whose first byte stands at a place of both; or one is malformed, the first
 // or the second, and this is its first bad line.
 #[derive(Clone, Copy)]
 pub enum Compared {
     Equal,
     Parts { line: usize, place: usize },
-    Malformed { side: u8, line: usize },
+    Malformed { side: Side, line: usize },
 }
 
 // What the seal of a text comes to: good; a wrong word; or there is no seal line at its end.

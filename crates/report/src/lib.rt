@@ -120,18 +120,8 @@ fn write_rule(report: &mut [u8], at: usize, rule: Rule) -> usize
     ensures { Wrote report.old at (rule_text rule) report.new result }
 {
     match rule {
-        Rule::Old => {
-            let a = fields::write_byte(report, at, b'o');
-            let b = fields::write_byte(report, a, b'l');
-            fields::write_byte(report, b, b'd')
-        }
-        Rule::House => {
-            let a = fields::write_byte(report, at, b'h');
-            let b = fields::write_byte(report, a, b'o');
-            let c = fields::write_byte(report, b, b'u');
-            let d = fields::write_byte(report, c, b's');
-            fields::write_byte(report, d, b'e')
-        }
+        Rule::Old => fields::write_text(report, at, b"old"),
+        Rule::House => fields::write_text(report, at, b"house"),
     }
 }
 

@@ -33,7 +33,7 @@ write_text-requires c =
 pub overflow_cast-line-in-Malformed : goal.overflow_cast-line-in-Malformed
 overflow_cast-line-in-Malformed c =
     let within = rw c.in-Malformed.is at c.compare-compared.ensures.within in
-    omega (arith, (let a = c.args in roomy a.first.now a.second.now a.out.now (sym c.if-no_room.false ∙ c.no_room.ensures)).0, (let a = c.args in roomy a.first.now a.second.now a.out.now (sym c.if-no_room.false ∙ c.no_room.ensures)).1, within.1)
+    omega (arith, (let a = c.args in roomy a.first.now a.second.now a.out.now (sym c.if-no_room.false ∙ c.no_room.ensures)).0, (let a = c.args in roomy a.first.now a.second.now a.out.now (sym c.if-no_room.false ∙ c.no_room.ensures)).1, within)
 
 pub write_malformed-requires : goal.write_malformed-requires
 write_malformed-requires c = omega (arith, (let a = c.args in roomy a.first.now a.second.now a.out.now (sym c.if-no_room.false ∙ c.no_room.ensures)).2)
@@ -56,4 +56,4 @@ returns-in-Parts c =
 pub returns-in-Malformed : goal.returns-in-Malformed
 unfolding said_text
 returns-in-Malformed c =
-    told_text _ _ _ (sym c.if-no_room.false ∙ c.no_room.ensures) (sym c.in-Malformed.is ∙ c.compare-compared.ensures.value) c.write_malformed.ensures.0 (omega (arith, (let a = c.args in roomy a.first.now a.second.now a.out.now (sym c.if-no_room.false ∙ c.no_room.ensures)).2, c.write_malformed.ensures.1))
+    told_text _ _ _ (sym c.if-no_room.false ∙ c.no_room.ensures) (sym c.in-Malformed.is ∙ c.compare-compared.ensures.value) (rw c.from.ensures at c.write_malformed.ensures.0) (omega (arith, (let a = c.args in roomy a.first.now a.second.now a.out.now (sym c.if-no_room.false ∙ c.no_room.ensures)).2, c.write_malformed.ensures.1))
