@@ -1,15 +1,13 @@
 -- What is written of two reports: a text behind the line, and the whole at the start of the room.
-use mathlib.Core.Path.{◌≡◌, refl, sym, ◌∙◌}
+use mathlib.Core.Path.{◌≡◌, sym, ◌∙◌}
 use mathlib.Core.Bool.{Bool, true, false, ◌||◌}
 use mathlib.Core.List.{List, ◌++◌}
 use Prim.Native.Nat.{ℕ, ◌+◌, ◌≤◌, ◌<◌}
 use native.Mathlib.Omega.{arith}
-use Rattle.std.proofs.Common.{append_assoc}
 use borrow.Author.Tests.{lt-ltb, le-ltb, ltb-false}
-use lib.ListN.{length, take, drop, length-drop}
+use lib.ListN.{length, drop, length-drop}
 use lib.Dec.{ltb}
-use lib.Seq.{drop-drop, sets-eq}
-use borrow.Rule.Slice.PartMut.{put_mid}
+use lib.Seq.{sets-eq}
 use Rattle.lists.specs.Sets.{Wrote, length_wrote}
 use Rattle.lists.specs.Split.{by_test, or_left, or_right}
 use Rattle.paper.specs.Text.{Bytes}

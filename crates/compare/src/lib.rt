@@ -419,6 +419,10 @@ pub fn compared_text<'a>(first: &'a [u8], second: &'a [u8], out: &mut [u8]) -> u
             let end = write_parted(out, line as u32);
             fields::write_text(out, end, rest(first, second))
         }
-        Compared::Malformed { side, line } => write_malformed(out, u8::from(side) as u32, line as u32),
+        Compared::Malformed { side, line } => write_malformed(
+            out,
+            u8::from(side) as u32,
+            line as u32,
+        ),
     }
 }
