@@ -1,5 +1,6 @@
 -- What is found, as a line of the report: where it stands, and its fields.
-use Rattle.std.specs.Prelude.{◌≡◌, List, map, ◌<◌}
+use Rattle.std.specs.Prelude.{◌≡◌, Some, None, List, map, ℕ, ◌<◌}
+use Rattle.std.specs.Prelude as prelude
 use Rattle.std.proofs.Math.Option.{Option}
 use Rattle.paper.specs.Text.{Name}
 use Rattle.paper.specs.Limits.{max_regs, max_slots}
@@ -9,6 +10,8 @@ use Rattle.steps.specs.declared.CheckerError.{CheckerError}
 use Rattle.steps.specs.declared.CheckerError.TheVariants as error
 use Rattle.report.specs.Lines.{field_texts}
 use Rattle.report.specs.Lengths.{ShortFields}
+use Rattle.report.specs.declared.Field.{Field}
+use Rattle.report.specs.declared.Field.TheVariants.{Named}
 use Rattle.report.specs.declared.Position.{Position}
 use Rattle.report.specs.declared.FaultFields.{FaultFields}
 
@@ -18,6 +21,14 @@ line_at p fault = map fault_entry (line_of p.block p.place p.inst fault)
 
 unfoldable pub names_at : Position → List Name → List Entry
 names_at p names = map fault_entry (names_lines p.block p.place p.inst names)
+
+-- the fields of a fault at a register or slot, with the names that are there
+abbrev pub name_field : prelude.Option ℕ → prelude.Option Field
+name_field None = None
+name_field (Some w) = Some (Named w)
+
+abbrev pub fields_at : ℕ → Field → prelude.Option ℕ → prelude.Option ℕ → FaultFields
+fields_at kind location expected actual = record { kind = kind; location = Some location; expected = name_field expected; actual = name_field actual }
 
 -- f stands for the fault, and its line is short
 pub record FieldsOf (fault : Fault) (f : FaultFields) : Type 0 where

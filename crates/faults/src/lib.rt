@@ -14,7 +14,7 @@ ghost use Rattle.loaded.specs.Actions.{operand_of, operands};
 ghost use Rattle.steps.specs.Faults.{error_fault, fault_of, some_in};
 ghost use Rattle.loaded.specs.Loaded.{step_total, sheet_of, Loaded};
 ghost use Rattle.report.specs.Lines.{PositionWithin};
-ghost use Rattle.faults.specs.Errors.{FieldsOf, ErrorWithin, line_at, names_at};
+ghost use Rattle.faults.specs.Errors.{fields_at, FieldsOf, ErrorWithin, line_at, names_at};
 ghost use Rattle.faults.specs.Passes.{AfterPass};
 ghost use Rattle.faults.specs.Missing.{MissingIs, MissingOf};
 ghost use Rattle.faults.specs.Reported.{Checkable, unmarked_lines, Reported};
@@ -40,15 +40,20 @@ pub struct Missing {
     pub k: usize,
 }
 
-// Stays a function: as a struct literal, or as a tuple, each arm of `fields_of` is longer.
-fn fault_fields(kind: u32, location: Field, expected: Field, actual: Field) -> FaultFields
-    ensures { result ≡ record { kind = kind; location = location; expected = expected; actual = actual } }
+// The fields of a fault at a register or slot, by the names that are there.
+fn fault_fields(
+    kind: u32,
+    location: Field,
+    expected: Option<u16>,
+    actual: Option<u16>,
+) -> FaultFields
+    ensures { result ≡ fields_at kind location expected actual }
 {
     FaultFields {
         kind,
-        location,
-        expected,
-        actual,
+        location: Some(location),
+        expected: expected.map(Field::Named),
+        actual: actual.map(Field::Named),
     }
 }
 
@@ -57,39 +62,28 @@ fn fields_of(error: CheckerError) -> FaultFields
     requires { ErrorWithin error }
     ensures { FieldsOf (error_fault error) result }
 {
-    let none = Field::Nothing;
     match error {
         CheckerError::UnknownValueInReg { reg } => {
-            fault_fields(2, Field::Register(reg as u32), none, none)
+            fault_fields(2, Field::Register(reg as u32), None, None)
         }
         CheckerError::IncorrectValueInReg {
             reg,
             expected,
             actual,
-        } => fault_fields(
-            3,
-            Field::Register(reg as u32),
-            Field::Named(expected),
-            Field::Named(actual),
-        ),
+        } => fault_fields(3, Field::Register(reg as u32), Some(expected), Some(actual)),
         CheckerError::UnknownValueInSlot { slot, expected } => {
-            fault_fields(4, Field::Slot(slot as u32), Field::Named(expected), none)
+            fault_fields(4, Field::Slot(slot as u32), Some(expected), None)
         }
         CheckerError::IncorrectValueInSlot {
             slot,
             expected,
             actual,
-        } => fault_fields(
-            5,
-            Field::Slot(slot as u32),
-            Field::Named(expected),
-            Field::Named(actual),
-        ),
+        } => fault_fields(5, Field::Slot(slot as u32), Some(expected), Some(actual)),
         CheckerError::StackMapSpecifiesNonRefSlot { slot } => {
-            fault_fields(6, Field::Slot(slot as u32), none, none)
+            fault_fields(6, Field::Slot(slot as u32), None, None)
         }
         CheckerError::StackMapSpecifiesUndefinedSlot { slot } => {
-            fault_fields(7, Field::Slot(slot as u32), none, none)
+            fault_fields(7, Field::Slot(slot as u32), None, None)
         }
     }
 }
@@ -133,7 +127,12 @@ fn write_operand(report: &mut [u8], at: usize, position: Position, operand: u16)
     if operand / REGISTER != NO_REGISTER {
         return at;
     }
-    let fault = fault_fields(1, Field::Nothing, Field::Named(operand), Field::Nothing);
+    let fault = FaultFields {
+        kind: 1,
+        location: None,
+        expected: Some(Field::Named(operand)),
+        actual: None,
+    };
     report::write_line(report, at, position, fault)
 }
 

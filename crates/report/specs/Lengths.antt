@@ -1,5 +1,5 @@
 -- How long a header and a line are, part by part, and how long they can get.
-use Rattle.std.specs.Prelude.{◌≡◌, refl, List, [], ◌∷◌, ℕ, ◌+◌, ◌-◌, ◌%◌, ◌≤◌, ◌<◌, length}
+use Rattle.std.specs.Prelude.{◌≡◌, refl, Some, None, List, [], ◌∷◌, ℕ, ◌+◌, ◌-◌, ◌%◌, ◌≤◌, ◌<◌, length}
 use Rattle.std.proofs.Common.{arith, lt-ltb, le-ltb, length-append}
 use Rattle.lists.specs.Split.{by_order}
 use Rattle.fields.specs.Spelling.{length_one, length_two, length_three, length_four, length_digits}
@@ -10,7 +10,7 @@ use Rattle.paper.specs.declared.Rule.{Rule}
 use Rattle.paper.specs.declared.Rule.TheVariants.{Old, House}
 use Rattle.cells.specs.Packed.{name_of_word}
 use Rattle.report.specs.Lines.{field_text, field_texts, fields_line, PositionWithin}
-use Rattle.report.specs.declared.Field.TheVariants.{Nothing, Register, Slot, Named}
+use Rattle.report.specs.declared.Field.TheVariants.{Register, Slot, Named}
 use Rattle.report.specs.declared.Position.{Position}
 use Rattle.report.specs.declared.FaultFields.{FaultFields}
 
@@ -39,19 +39,19 @@ name_short w =
     λ h. rw (le-ltb (w % 512) 256 h) (omega (arith, length_three (w % 512 - 256) (omega arith)))
 
 -- a field of each kind
-pub nothing_short : length (field_text Nothing) ≡ 1
+pub nothing_short : length (field_text None) ≡ 1
 unfolding field_text
 nothing_short = refl
 
-pub register_short : (r : ℕ) → r < max_regs → length (field_text (Register r)) ≤ 3
+pub register_short : (r : ℕ) → r < max_regs → length (field_text (Some (Register r))) ≤ 3
 unfolding field_text
 register_short r h = omega (arith, length_two r (omega arith))
 
-pub slot_short : (k : ℕ) → k < max_slots → length (field_text (Slot k)) ≤ 3
+pub slot_short : (k : ℕ) → k < max_slots → length (field_text (Some (Slot k))) ≤ 3
 unfolding field_text slot_text
 slot_short k h = omega (arith, length_two k (omega arith))
 
-pub named_short : (w : ℕ) → length (field_text (Named w)) ≤ 4
+pub named_short : (w : ℕ) → length (field_text (Some (Named w))) ≤ 4
 unfolding field_text
 named_short w = name_short w
 

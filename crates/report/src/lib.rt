@@ -17,10 +17,9 @@ use paper::Rule;
 
 const REAL_NAMES: u32 = cells::REAL_NAMES as u32;
 
-// A field of an `E` line: `-`, `rN`, `sN`, or a name's nine bits.
+// A field of an `E` line: `rN`, `sN`, or a name's nine bits.
 #[derive(Clone, Copy)]
 pub enum Field {
-    Nothing,
     Register(u32),
     Slot(u32),
     Named(u16),
@@ -34,13 +33,13 @@ pub struct Position {
     pub inst: u16,
 }
 
-// The fields of an `E` line behind its inst.
+// The fields of an `E` line behind its inst; one that is not there is a `-`.
 #[derive(Clone, Copy)]
 pub struct FaultFields {
     pub kind: u32,
-    pub location: Field,
-    pub expected: Field,
-    pub actual: Field,
+    pub location: Option<Field>,
+    pub expected: Option<Field>,
+    pub actual: Option<Field>,
 }
 
 // The name in the nine low bits of a word.
@@ -63,14 +62,16 @@ pub fn write_packed_name(report: &mut [u8], at: usize, w: u16) -> usize
     fields::write_name(report, at, unpacked_name(w))
 }
 
-// A tab and a field.
-fn write_field(report: &mut [u8], at: usize, field: Field) -> usize
+// A tab and a field, or `-`.
+fn write_field(report: &mut [u8], at: usize, field: Option<Field>) -> usize
     requires { at + length (tab ∷ field_text field) ≤ length report.old }
     ensures { Wrote report.old at (tab ∷ field_text field) report.new result }
 {
     let next = fields::write_byte(report, at, b'\t');
+    let Some(field) = field else {
+        return fields::write_byte(report, next, b'-');
+    };
     match field {
-        Field::Nothing => fields::write_byte(report, next, b'-'),
         Field::Register(n) => fields::write_before_number(report, next, b'r', n),
         Field::Slot(n) => fields::write_before_number(report, next, b's', n),
         Field::Named(w) => write_packed_name(report, next, w),

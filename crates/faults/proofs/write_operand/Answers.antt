@@ -9,8 +9,8 @@ pub returns-then-operand-ne-NO_REGISTER : goal.returns-then-operand-ne-NO_REGIST
 returns-then-operand-ne-NO_REGISTER c = rw (no_line_missing _ _ c.if-operand-ne-NO_REGISTER.true) (record { list = refl; next = omega arith }, omega arith)
 
 pub write_line-requires : goal.write_line-requires
-write_line-requires c = rw c.fault_fields-fault.ensures (c.requires.0, omega (arith, missing_short c.args.position c.args.operand c.requires.0))
+write_line-requires c = (c.requires.0, omega (arith, missing_short c.args.position c.args.operand c.requires.0))
 
 pub returns : goal.returns
-returns c = let l = rw c.fault_fields-fault.ensures at c.write_line.ensures in
-    (rw (line_missing _ _ c.if-operand-ne-NO_REGISTER.false) l, omega (arith, l, missing_short c.args.position c.args.operand c.requires.0))
+returns c =
+    (rw (line_missing _ _ c.if-operand-ne-NO_REGISTER.false) c.write_line.ensures, omega (arith, c.write_line.ensures, missing_short c.args.position c.args.operand c.requires.0))
