@@ -11,7 +11,7 @@ use Rattle.lists.specs.Sets.{Wrote, then}
 use Rattle.paper.specs.Sheet.{Step, steps_of, reference_typed}
 use Rattle.paper.specs.Steps.{State, Fault, check, effect, effects}
 use Rattle.paper.specs.Runs.{analysis, checked_from}
-use Rattle.paper.specs.Limits.{max_blocks, max_steps}
+use Rattle.paper.specs.Limits.{max_blocks, max_steps, longest_fault_line, longest_unreached_line}
 use Rattle.paper.specs.Report.{Line, Entry, fault_entry, unreached_entry, inst_of, faults_from, block_faults, entries_at, block_entries, by_block, find_errors, faults_in, unreached_text, lines_text}
 use Rattle.paper.specs.declared.Rule.{Rule}
 use Rattle.layout.specs.Layout.{blocks_word, opened_word, steps_word, state_base, state_words, all_words, mark_at}
@@ -26,10 +26,9 @@ use Rattle.loaded.specs.Blocks.{steps_in_words}
 use Rattle.tables.specs.Table.{mark_of, unmarked}
 use Rattle.faults.specs.Errors.{line_at}
 use Rattle.faults.specs.Blocks.{by_block_more}
-use Rattle.faults.specs.Passes.{AfterPass}
+use Rattle.faults.specs.Passes.{PassLaws, AfterPass, lines_append}
 use Rattle.faults.specs.Reported.{Checkable, unmarked_at, unmarked_lines}
-use Rattle.faults.specs.declared.Pass.{Pass}
-use Rattle.faults.proofs.LawsPasses.{lines_append, pass_none, pass_then, unreached_wrote}
+use Rattle.faults.proofs.LawsPasses.{pass_none, pass_then, pass_within, unreached_wrote}
 use Rattle.faults.proofs.LawsFaults.{effects_more, faults_more, count_from, count_more, count_below}
 
 -- the first `place` steps of the block, the state behind them, and their faults
@@ -44,11 +43,11 @@ abbrev faults_to : Rule → List ℕ → ℕ → ℕ → List Line
 faults_to rule words block place =
     faults_from rule (sheet_of words) block 0 (steps_to words block place) (checked_from rule (sheet_of words) block)
 
--- they are checked: t is that state, and the pass has been over those faults
-pub record SoFar (pass : Pass) (rule : Rule) (words : List ℕ) (block place : ℕ) (t : List (List ℕ))
-    (report₀ : List ℕ) (at : ℕ) (report : List ℕ) (next : ℕ) : Type 0 where
+-- they are checked: t is that state, and the pass was told those faults
+pub record SoFar {S : Type 0} (told : List Entry → S → S → Type 0) (taken size : S → ℕ) (rule : Rule) (words : List ℕ)
+    (block place : ℕ) (t : List (List ℕ)) (s s' : S) : Type 0 where
   pub state : state_of (counts_in words) t ≡ state_behind rule words block place
-  pub passed : AfterPass pass (map fault_entry (faults_to rule words block place)) report₀ at report next
+  pub passed : AfterPass told taken size (map fault_entry (faults_to rule words block place)) (longest_fault_line * place) s s'
 
 -- the bounds of a block of a loaded sheet
 pub record BlockWithin (words : List ℕ) (block : ℕ) : Type 0 where
@@ -76,43 +75,42 @@ block_within {words} {block} l h =
 pub room_at : {words : List ℕ} → Loaded words → (k : ℕ) → k < get_or words steps_word 0 → RoomFor (action_at words k) words
 room_at {words} l k h = room_within (counts_in words) (MayStand (counts_in words)) words (action_at words k) (l.bounds.each_step k h).ranged
 
-module _ {rule : Rule} {words : List ℕ} {block : ℕ} (C : Checkable rule words) (h : block < get_or words blocks_word 0) where
-  -- nothing is checked yet
-  pub so_far_none : (pass : Pass) (t : List (List ℕ)) (report : List ℕ) (at : ℕ)
-      → state_of (counts_in words) t ≡ stored_state (counts_in words) (state_base + block * state_words) words
-      → SoFar pass rule words block 0 t report at report at
-  unfolding effects faults_from steps_at
-  so_far_none pass t report at e = record { state = e ∙ C.states block h; passed = pass_none pass report at }
+module _ {S : Type 0} {told : List Entry → S → S → Type 0} {taken size : S → ℕ} where
+  module _ {rule : Rule} {words : List ℕ} {block : ℕ} (C : Checkable rule words) (h : block < get_or words blocks_word 0) where
+    -- nothing is checked yet
+    pub so_far_none : PassLaws told → (t : List (List ℕ)) (s : S)
+        → state_of (counts_in words) t ≡ stored_state (counts_in words) (state_base + block * state_words) words
+        → SoFar told taken size rule words block 0 t s s
+    unfolding effects faults_from steps_at
+    so_far_none laws t s e = record { state = e ∙ C.states block h; passed = pass_none laws _ s }
 
-  -- all is checked
-  pub so_far_all : {pass : Pass} {t : List (List ℕ)} {report₀ report : List ℕ} {at next : ℕ}
-      → SoFar pass rule words block (step_total words block) t report₀ at report next
-      → AfterPass pass (map fault_entry (block_faults rule (sheet_of words) block)) report₀ at report next
-  unfolding block_faults
-  so_far_all s = rw (steps_in_words words block (block_within C.loaded h).opened) s.passed
+    -- all is checked
+    pub so_far_all : {t : List (List ℕ)} {s s' : S} → SoFar told taken size rule words block (step_total words block) t s s'
+        → AfterPass told taken size (map fault_entry (block_faults rule (sheet_of words) block)) (longest_fault_line * step_total words block) s s'
+    unfolding block_faults
+    so_far_all f = rw (steps_in_words words block (block_within C.loaded h).opened) f.passed
 
--- one step more
-pub so_far_more : {pass : Pass} {rule : Rule} {words : List ℕ} {block place : ℕ} {t u : List (List ℕ)}
-    {report₀ report report' : List ℕ} {at next next' : ℕ}
-    → (a : Action) (o : Option Fault) (inst : ℕ) → a ≡ action_at words (first_step words block + place)
-    → o ≡ check (step_of words a) (state_of (counts_in words) t) → inst ≡ inst_of (step_of words a)
-    → state_of (counts_in words) u ≡ effect rule (reference_typed (sheet_of words)) (step_of words a) (state_of (counts_in words) t)
-    → SoFar pass rule words block place t report₀ at report next
-    → AfterPass pass (line_at (record { block = block; place = place; inst = inst }) o) report next report' next'
-    → SoFar pass rule words block (place + 1) u report₀ at report' next'
-unfolding line_at
-so_far_more {pass} {rule} {words} {block} {place} a o inst ea eo ei eu s n =
-    let first = first_step words block in
-    let S = sheet_of words in
-    let x = step_of words (action_at words (first + place)) in
-    let xs = steps_at words first place in
-    let z : 0 + length xs ≡ place = omega (arith, length_steps words first place) in
-    record {
-      state = rw (steps_more words first place, effects_more rule (reference_typed S) x xs, ← s.state, ← ea) eu;
-      passed =
-          rw (steps_more words first place, faults_more rule S block x 0 xs, z, ← s.state, ← ea, ← ei, ← eo, map-append)
-          (pass_then s.passed n);
-    }
+  -- one step more
+  pub so_far_more : {rule : Rule} {words : List ℕ} {block place : ℕ} {t u : List (List ℕ)} {s s' s'' : S} → PassLaws told
+      → (a : Action) (o : Option Fault) (inst : ℕ) → a ≡ action_at words (first_step words block + place)
+      → o ≡ check (step_of words a) (state_of (counts_in words) t) → inst ≡ inst_of (step_of words a)
+      → state_of (counts_in words) u ≡ effect rule (reference_typed (sheet_of words)) (step_of words a) (state_of (counts_in words) t)
+      → SoFar told taken size rule words block place t s s'
+      → AfterPass told taken size (line_at (record { block = block; place = place; inst = inst }) o) longest_fault_line s' s''
+      → SoFar told taken size rule words block (place + 1) u s s''
+  unfolding line_at
+  so_far_more {rule} {words} {block} {place} laws a o inst ea eo ei eu f n =
+      let first = first_step words block in
+      let X = sheet_of words in
+      let x = step_of words (action_at words (first + place)) in
+      let xs = steps_at words first place in
+      let z : 0 + length xs ≡ place = omega (arith, length_steps words first place) in
+      record {
+        state = rw (steps_more words first place, effects_more rule (reference_typed X) x xs, ← f.state, ← ea) eu;
+        passed =
+            rw (steps_more words first place, faults_more rule X block x 0 xs, z, ← f.state, ← ea, ← ei, ← eo, map-append)
+            (pass_within (omega arith) (pass_then laws f.passed n));
+      }
 
 -- block after block
 
@@ -174,22 +172,32 @@ module _ {rule : Rule} {words : List ℕ} (C : Checkable rule words) where
   unfolding unmarked_lines find_errors sheet_of
   faultless_lines e = faultless_blocks (get_or words blocks_word 0) 0 (omega arith) e
 
-pub blocks_none : (pass : Pass) (rule : Rule) (words report : List ℕ) (at : ℕ)
-    → AfterPass pass (by_block (block_entries rule (sheet_of words)) 0 0) report at report at
-unfolding by_block
-blocks_none pass rule words report at = pass_none pass report at
+-- what a pass was told of the first n blocks
+abbrev blocks_room : List ℕ → ℕ → ℕ
+blocks_room words n = longest_fault_line * count_from words 0 n + longest_unreached_line * n
 
-pub blocks_more : {pass : Pass} {report₀ report report' : List ℕ} {at next next' : ℕ} (rule : Rule) (words : List ℕ) (block : ℕ)
-    → AfterPass pass (by_block (block_entries rule (sheet_of words)) 0 block) report₀ at report next
-    → AfterPass pass (block_entries rule (sheet_of words) block) report next report' next'
-    → AfterPass pass (by_block (block_entries rule (sheet_of words)) 0 (block + 1)) report₀ at report' next'
-blocks_more rule words block p q = rw (by_block_more (block_entries rule (sheet_of words)) block) (pass_then p q)
+abbrev pub AfterBlocks : {S : Type 0} → (List Entry → S → S → Type 0) → (S → ℕ) → (S → ℕ) → Rule → List ℕ → ℕ → S → S → Type 0
+AfterBlocks told taken size rule words n s s' =
+    AfterPass told taken size (by_block (block_entries rule (sheet_of words)) 0 n) (blocks_room words n) s s'
 
-pub blocks_all : {pass : Pass} {report₀ report : List ℕ} {at next : ℕ} (rule : Rule) (words : List ℕ)
-    → AfterPass pass (by_block (block_entries rule (sheet_of words)) 0 (get_or words blocks_word 0)) report₀ at report next
-    → AfterPass pass (find_errors rule (sheet_of words)) report₀ at report next
-unfolding find_errors sheet_of
-blocks_all rule words p = p
+module _ {S : Type 0} {told : List Entry → S → S → Type 0} {taken size : S → ℕ} where
+  pub blocks_none : PassLaws told → (rule : Rule) (words : List ℕ) (s : S) → AfterBlocks told taken size rule words 0 s s
+  unfolding by_block
+  blocks_none laws rule words s = pass_none laws _ s
+
+  pub blocks_more : {s s' s'' : S} → PassLaws told → (rule : Rule) (words : List ℕ) (block : ℕ)
+      → AfterBlocks told taken size rule words block s s'
+      → AfterPass told taken size (block_entries rule (sheet_of words) block) (longest_fault_line * step_total words block + longest_unreached_line) s' s''
+      → AfterBlocks told taken size rule words (block + 1) s s''
+  blocks_more laws rule words block p q =
+      rw (by_block_more (block_entries rule (sheet_of words)) block)
+      (pass_within (omega (arith, count_next words block)) (pass_then laws p q))
+
+  pub blocks_all : {s s' : S} (rule : Rule) (words : List ℕ) (most : ℕ) → blocks_room words (get_or words blocks_word 0) ≤ most
+      → AfterBlocks told taken size rule words (get_or words blocks_word 0) s s'
+      → AfterPass told taken size (find_errors rule (sheet_of words)) most s s'
+  unfolding find_errors sheet_of
+  blocks_all rule words most h p = pass_within h p
 
 -- the lines of the blocks without a mark, one block after the other
 abbrev pub unmarked_to : List ℕ → ℕ → List Entry

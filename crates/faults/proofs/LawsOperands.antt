@@ -17,8 +17,9 @@ use Rattle.loaded.specs.Actions.{no_register, register_of, operand_of}
 use Rattle.report.specs.Lines.{fields_line}
 use Rattle.report.specs.declared.Position.{Position}
 use Rattle.faults.specs.Errors.{names_at}
+use Rattle.faults.specs.Passes.{lines_append}
 use Rattle.faults.proofs.LawsFields.{missing_fields, missing_text}
-use Rattle.faults.proofs.LawsPasses.{lines_append, one_line}
+use Rattle.faults.proofs.LawsPasses.{one_line}
 
 one_append : (u : Operand) (xs ys : List Operand) (o : Option ℕ) → u.reg ≡ o → unallocated (xs ++ ys) ≡ unallocated xs ++ unallocated ys
     → unallocated ((u ∷ xs) ++ ys) ≡ unallocated (u ∷ xs) ++ unallocated ys

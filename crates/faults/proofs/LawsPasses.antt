@@ -1,80 +1,67 @@
--- What a pass leaves of lines one after the other, and of one step.
+-- What a pass was told of lines one after the other, and of one step.
 use mathlib.Core.Path.{◌≡◌, refl, sym, ◌∙◌}
-use mathlib.Core.List.{List, [], ◌∷◌, ◌++◌, append-nil, append_assoc}
+use mathlib.Core.List.{List, [], ◌∷◌, ◌++◌, append-nil}
 use mathlib.Core.Option.{none, some}
-use Prim.Native.Nat.{ℕ, ◌+◌}
+use Prim.Native.Nat.{ℕ, ◌+◌, ◌≤◌}
 use native.Mathlib.Omega.{arith}
-use lib.ListN.{length-append}
-use Rattle.lists.specs.Sets.{Wrote, then}
+use lib.ListN.{length}
+use Rattle.lists.specs.Sets.{Wrote}
 use Rattle.paper.specs.Steps.{Fault}
 use Rattle.paper.specs.Report.{Entry, unreached_entry, faults_in, line_text, unreached_text, entry_text, lines_text, line_of}
-use Rattle.walks.specs.Entries.{faults_append}
 use Rattle.report.specs.Lines.{fields_line}
 use Rattle.report.specs.declared.Position.{Position}
 use Rattle.report.specs.declared.FaultFields.{FaultFields}
 use Rattle.faults.specs.Errors.{line_at, FieldsOf}
-use Rattle.faults.specs.Passes.{report_after, growth, AfterPass}
-use Rattle.faults.specs.declared.Pass.{Pass}
-use Rattle.faults.specs.declared.Pass.TheVariants.{Count, Write}
+use Rattle.faults.specs.Passes.{PassLaws, AfterPass}
 use Rattle.faults.proofs.LawsFields.{line_of_fields}
-
-pub lines_append : (xs ys : List Entry) → lines_text (xs ++ ys) ≡ lines_text xs ++ lines_text ys
-unfolding lines_text
-lines_append [] ys = refl
-lines_append (x ∷ xs) ys = rw (append_assoc, ← lines_append xs ys)
 
 pub one_line : (e : Entry) → lines_text (e ∷ []) ≡ entry_text e
 unfolding lines_text
 one_line e = append-nil (entry_text e)
 
-wrote_pass : {es : List Entry} {l l' : List ℕ} {i j : ℕ} → Wrote l i (lines_text es) l' j → AfterPass Write es l i l' j
-unfolding report_after growth
-wrote_pass w = record { list = w.list; next = w.next }
-
-pub pass_wrote : {es : List Entry} {l l' : List ℕ} {i j : ℕ} → AfterPass Write es l i l' j → Wrote l i (lines_text es) l' j
-unfolding report_after growth
-pass_wrote w = record { list = w.list; next = w.next }
-
-pub pass_none : (pass : Pass) (l : List ℕ) (i : ℕ) → AfterPass pass [] l i l i
-unfolding report_after growth lines_text faults_in
-pass_none Count l i = record { list = refl; next = omega arith }
-pass_none Write l i = record { list = refl; next = omega arith }
-
-pub pass_then : {pass : Pass} {xs ys : List Entry} {l l₁ l₂ : List ℕ} {i j k : ℕ} → AfterPass pass xs l i l₁ j
-    → AfterPass pass ys l₁ j l₂ k → AfterPass pass (xs ++ ys) l i l₂ k
-unfolding report_after growth
-pass_then {pass = Count} p q = record { list = q.list ∙ p.list; next = rw (faults_append, length-append) (omega arith) }
-pass_then {pass = Write} p q = wrote_pass (rw lines_append (then (pass_wrote p) (pass_wrote q)))
-
--- one step
+-- what the two passes do with a fault's line and with that of an unreached block
 
 module _ (p : Position) where
-  pub pass_nothing : (pass : Pass) (l : List ℕ) (i : ℕ) → AfterPass pass (line_at p none) l i l i
-  unfolding line_at line_of
-  pass_nothing pass l i = pass_none pass l i
-
-  pub pass_counted : (fault : Fault) (l : List ℕ) (i : ℕ) → AfterPass Count (line_at p (some fault)) l i l (i + 1)
-  unfolding report_after growth line_at line_of faults_in
-  pass_counted fault l i = record { list = refl; next = refl }
+  pub fault_counted : (fault : Fault) → length (faults_in (line_at p (some fault))) ≡ 1
+  unfolding line_at line_of faults_in
+  fault_counted fault = refl
 
   text_of_fault : (fault : Fault) (f : FaultFields) → FieldsOf fault f → fields_line p f ≡ lines_text (line_at p (some fault))
   unfolding line_at line_of entry_text line_text
   text_of_fault fault f F = line_of_fields p F ∙ sym (one_line _)
 
-  pub pass_written : {fault : Fault} {f : FaultFields} {l l' : List ℕ} {i j : ℕ} → FieldsOf fault f
-      → Wrote l i (fields_line p f) l' j → AfterPass Write (line_at p (some fault)) l i l' j
-  pass_written {fault} {f} F w = wrote_pass (rw (← text_of_fault fault f F) w)
-
--- an unreached block: its line is no fault
+  pub fault_wrote : {fault : Fault} {f : FaultFields} {l l' : List ℕ} {i j : ℕ} → FieldsOf fault f
+      → Wrote l i (fields_line p f) l' j → Wrote l i (lines_text (line_at p (some fault))) l' j
+  fault_wrote {fault} {f} F w = rw (← text_of_fault fault f F) w
 
 module _ (b : ℕ) where
-  pub unreached_counted : (l : List ℕ) (i : ℕ) → AfterPass Count (unreached_entry b ∷ []) l i l i
-  unfolding report_after growth faults_in
-  unreached_counted l i = record { list = refl; next = omega arith }
+  pub unreached_counted : length (faults_in (unreached_entry b ∷ [])) ≡ 0
+  unfolding faults_in
+  unreached_counted = refl
 
   pub unreached_wrote : {l l' : List ℕ} {i j : ℕ} → Wrote l i (unreached_text b) l' j → Wrote l i (lines_text (unreached_entry b ∷ [])) l' j
   unfolding entry_text
   unreached_wrote w = rw (one_line (unreached_entry b)) w
 
-  pub unreached_written : {l l' : List ℕ} {i j : ℕ} → Wrote l i (unreached_text b) l' j → AfterPass Write (unreached_entry b ∷ []) l i l' j
-  unreached_written w = wrote_pass (unreached_wrote w)
+-- of any pass: no line, one after the other
+
+module _ {S : Type 0} {told : List Entry → S → S → Type 0} {taken size : S → ℕ} (laws : PassLaws told) where
+  pub pass_none : (most : ℕ) (s : S) → AfterPass told taken size [] most s s
+  pass_none most s = record { lines = laws.nothing s; most = omega arith; kept = refl }
+
+  pub pass_nothing : (p : Position) (most : ℕ) (s : S) → AfterPass told taken size (line_at p none) most s s
+  unfolding line_at line_of
+  pass_nothing p most s = pass_none most s
+
+  pub pass_then : {xs ys : List Entry} {m n : ℕ} {s t u : S} → AfterPass told taken size xs m s t → AfterPass told taken size ys n t u
+      → AfterPass told taken size (xs ++ ys) (m + n) s u
+  pass_then {xs} {ys} {m} {n} {s} {t} {u} p q = record {
+    lines = laws.more xs ys s t u p.lines q.lines;
+    most = omega (arith, p.most, q.most);
+    kept = q.kept ∙ p.kept;
+  }
+
+-- with more room asked for
+pub pass_within : {S : Type 0} {told : List Entry → S → S → Type 0} {taken size : S → ℕ} {es : List Entry} {m n : ℕ} {s t : S}
+    → m ≤ n → AfterPass told taken size es m s t → AfterPass told taken size es n s t
+pass_within h p = record { lines = p.lines; most = omega (arith, p.most); kept = p.kept }

@@ -2,7 +2,7 @@
 use mathlib.Core.Path.{◌≡◌, refl, sym, ap, ◌∙◌}
 use mathlib.Core.Bool.{true, true≢false}
 use mathlib.Core.List.{List, [], ◌∷◌}
-use Prim.Native.Nat.{ℕ, suc, ◌≤◌}
+use Prim.Native.Nat.{ℕ, suc, ◌+◌, ◌≤◌}
 use native.Mathlib.Omega.{arith}
 use lib.ListN.{length}
 use Rattle.lists.specs.Sets.{Wrote, then}
@@ -14,13 +14,10 @@ use Rattle.paper.specs.Answer.{accepted, faulty, said_by, said_of, answer_of, re
 use Rattle.paper.specs.declared.Rule.{Rule}
 use Rattle.paper.specs.declared.Answer.TheVariants.{Accepted, Faulty}
 use Rattle.steps.specs.Faults.{some_in}
-use Rattle.faults.specs.Passes.{report_after, growth, AfterPass}
 use Rattle.report.specs.Laid.{wrote_laid}
 use Rattle.report.specs.declared.Position.{Position}
 use Rattle.faults.specs.Errors.{names_at}
 use Rattle.faults.specs.Reported.{Reported}
-use Rattle.faults.specs.declared.Pass.TheVariants.{Count, Write}
-use Rattle.faults.proofs.LawsPasses.{pass_wrote}
 
 -- the whole text
 wrote_report : (rule : Rule) (es : List Entry) {l l₁ l₂ : List ℕ} {j k : ℕ} → Wrote l 0 (header_text rule (length (faults_in es))) l₁ j
@@ -62,33 +59,27 @@ module _ (rule : Rule) (es : List Entry) {l l₁ l₂ : List ℕ} {j k : ℕ} (h
 
 -- what is reported
 
-counted : {es : List Entry} {l l₁ : List ℕ} {count : ℕ} → AfterPass Count es l 0 l₁ count → count ≡ length (faults_in es)
-unfolding growth
-counted n = omega (arith, n.next)
-
 -- no fault was counted
-pub none_counted : {es : List Entry} {l l₁ : List ℕ} {count : ℕ} → AfterPass Count es l 0 l₁ count → count ≡ 0 → faults_in es ≡ []
-none_counted {es} n z = empty_list (faults_in es) (sym (counted n) ∙ z)
+pub none_counted : (es : List Entry) {count : ℕ} → count ≡ 0 + length (faults_in es) → count ≡ 0 → faults_in es ≡ []
+none_counted es n z = empty_list (faults_in es) (omega arith)
   where
     empty_list : (ls : List Line) → length ls ≡ 0 → ls ≡ []
     empty_list [] e = refl
     empty_list (l ∷ ls) e = absurd (omega arith)
 
-module _ (rule : Rule) {es : List Entry} {l l₁ l₂ : List ℕ} {count j : ℕ} (n : AfterPass Count es l 0 l₁ count)
-    (h : Wrote l₁ 0 (header_text rule count) l₂ j) where
+module _ (rule : Rule) (es : List Entry) {l l₂ : List ℕ} {count j : ℕ} (n : count ≡ 0 + length (faults_in es))
+    (h : Wrote l 0 (header_text rule count) l₂ j) {l₃ : List ℕ} {k : ℕ} (w : Wrote l₂ j (lines_text es) l₃ k)
+    (small : k ≤ report_size) (fits : report_size ≤ length l) where
   behind_count : Wrote l 0 (header_text rule (length (faults_in es))) l₂ j
-  unfolding report_after
-  behind_count = rw (← n.list, ← counted n) h
+  behind_count = let e : length (faults_in es) ≡ count = omega arith in rw e h
 
   -- no fault was counted, and the lines that there are are written
-  pub errors_accepted : {l₃ : List ℕ} {k : ℕ} → count ≡ 0 → Wrote l₂ j (lines_text es) l₃ k → k ≤ report_size → report_size ≤ length l
-      → Reported rule es l (Accepted k) l₃
-  errors_accepted z w small fits = reported_accepted rule es behind_count w small fits (sym (counted n) ∙ z)
+  pub errors_accepted : count ≡ 0 → Reported rule es l (Accepted k) l₃
+  errors_accepted z = reported_accepted rule es behind_count w small fits (omega arith)
 
   -- the faults that were counted are written
-  pub errors_faulty : {l₃ : List ℕ} {k : ℕ} → (count ≡ 0 → ⊥) → AfterPass Write es l₂ j l₃ k → k ≤ report_size → report_size ≤ length l
-      → Reported rule es l (Faulty k) l₃
-  errors_faulty z w small fits = reported_faulty rule es behind_count (pass_wrote w) small fits (λ e. z (counted n ∙ e))
+  pub errors_faulty : (count ≡ 0 → ⊥) → Reported rule es l (Faulty k) l₃
+  errors_faulty z = reported_faulty rule es behind_count w small fits (λ e. z (omega arith))
 
 pub entries_found : (rule : Rule) (S : Sheet) → missing_allocations S ≡ [] → entries rule S ≡ find_errors rule S
 unfolding entries first_list

@@ -4,7 +4,6 @@
 #![tactic(auto)]
 
 ghost use Rattle.std.specs.Prelude.{◌≡◌, Some, true, [], ◌∷◌, map, ◌+◌, ◌*◌, ◌≤◌, ◌<◌, length, get_or};
-ghost use Rattle.std.specs.Result.{ForErr};
 ghost use Rattle.lists.specs.Sets.{Wrote};
 ghost use Rattle.paper.specs.Sheet.{steps_of};
 ghost use Rattle.paper.specs.Limits.{max_blocks, max_operands, max_steps, longest_fault_line, longest_unreached_line, report_size};
@@ -24,13 +23,6 @@ use loaded::{Action, NO_REGISTER, REGISTER};
 use paper::{Answer, Rule};
 use report::{FaultFields, Field, Position};
 use steps::CheckerError;
-
-// What a pass over the blocks does: counts the faults, or writes every line.
-#[derive(Clone, Copy)]
-pub enum Pass {
-    Count,
-    Write,
-}
 
 // The first step that has an operand with no allocation: its block, its place there, and its number in the sheet.
 #[derive(Clone, Copy)]
@@ -88,23 +80,80 @@ fn fields_of(error: CheckerError) -> FaultFields
     }
 }
 
-// A step's fault, if there is one, is counted or its line written.
-fn count_or_write(
-    pass: Pass,
-    report: &mut [u8],
+// A pass over the blocks: what it does with the lines that it is told, one after the other.
+trait Lines {
+    ghost use Rattle.std.specs.Prelude.{List, ℕ};
+    ghost use Rattle.std.proofs.Math.Option.{some};
+    ghost use Rattle.paper.specs.Report.{Entry};
+    ghost use Rattle.faults.specs.Passes.{PassLaws};
+
+    // From the first state to the second it was told the lines of the list.
+    ghost told: { List Entry → Self → Self → Type 0 };
+
+    // How much they took, of how much there is.
+    ghost taken: { Self → ℕ };
+
+    ghost size: { Self → ℕ };
+
+    fn fault(&mut self, position: Position, error: CheckerError)
+        requires { PositionWithin position × ErrorWithin error × (taken self.old + longest_fault_line ≤ size self.old) }
+        ensures { AfterPass told taken size (line_at position (some (error_fault error))) longest_fault_line self.old self.new };
+
+    fn unreached(&mut self, block: usize)
+        requires { (block < max_blocks) × (taken self.old + longest_unreached_line ≤ size self.old) }
+        ensures { AfterPass told taken size (unreached_entry block ∷ []) longest_unreached_line self.old self.new };
+
+    ghost laws: { PassLaws told };
+}
+
+// The pass that counts the faults.
+#[derive(Drop)]
+struct Counted {
+    faults: usize,
+}
+
+impl Lines for Counted {
+    ghost use Rattle.faults.specs.Passes.{counted_told, counted_laws};
+
+    ghost told = { counted_told (λ s. s.faults) };
+
+    ghost taken = { λ s. s.faults };
+
+    ghost size = { λ s. report_size };
+
+    ghost laws = { counted_laws (λ s. s.faults) };
+
+    fn fault(&mut self, _position: Position, _error: CheckerError) {
+        self.faults += 1;
+    }
+
+    fn unreached(&mut self, _block: usize) {}
+}
+
+// The pass that writes every line, each behind the text so far.
+#[derive(Drop)]
+struct Written<'a> {
+    report: &'a mut [u8],
     at: usize,
-    position: Position,
-    checked: Result<(), CheckerError>,
-) -> usize
-    requires { PositionWithin position × ForErr checked ErrorWithin × (at + longest_fault_line ≤ length report.old) }
-    ensures { AfterPass pass (line_at position (fault_of checked)) report.old at report.new result × (result ≤ at + longest_fault_line) }
-{
-    let Err(error) = checked else {
-        return at;
-    };
-    match pass {
-        Pass::Count => at + 1,
-        Pass::Write => report::write_line(report, at, position, fields_of(error)),
+}
+
+impl<'a> Lines for Written<'a> {
+    ghost use Rattle.faults.specs.Passes.{written_told, written_laws};
+
+    ghost told = { written_told (λ s. s.report.ghost_name) (λ s. s.report.now) (λ s. s.at) };
+
+    ghost taken = { λ s. s.at };
+
+    ghost size = { λ s. length s.report.now };
+
+    ghost laws = { written_laws (λ s. s.report.ghost_name) (λ s. s.report.now) (λ s. s.at) };
+
+    fn fault(&mut self, position: Position, error: CheckerError) {
+        self.at = report::write_line(self.report, self.at, position, fields_of(error));
+    }
+
+    fn unreached(&mut self, block: usize) {
+        self.at = report::write_unreached(self.report, self.at, block);
     }
 }
 
@@ -226,73 +275,44 @@ pub fn find_missing(words: &[u16]) -> Option<Missing>
     None
 }
 
-// The line of a block that no walk comes to, where lines are written: it is not counted.
-fn note_unreached(pass: Pass, report: &mut [u8], at: usize, block: usize) -> usize
-    requires { (block < max_blocks) × (at + longest_unreached_line ≤ length report.old) }
-    ensures { AfterPass pass (unreached_entry block ∷ []) report.old at report.new result × (result ≤ at + longest_unreached_line) }
-{
-    match pass {
-        Pass::Count => at,
-        Pass::Write => report::write_unreached(report, at, block),
-    }
-}
-
 // A block's steps, each checked in the state before it.
-fn check_block(
-    pass: Pass,
-    rule: Rule,
-    words: &[u16],
-    report: &mut [u8],
-    at: usize,
-    block: usize,
-) -> usize
-    requires { Checkable rule words.now × (block < get_or words.now blocks_word 0) × (at + longest_fault_line * step_total words.now block ≤ length report.old) }
-    ensures { AfterPass pass (map fault_entry (block_faults rule (sheet_of words.now) block)) report.old at report.new result × (result ≤ at + longest_fault_line * step_total words.now block) }
+fn check_block<L: Lines>(lines: &mut L, rule: Rule, words: &[u16], block: usize)
+    requires { Checkable rule words.now × (block < get_or words.now blocks_word 0) × (L.taken lines.old + longest_fault_line * step_total words.now block ≤ L.size lines.old) }
+    ensures { AfterPass L.told L.taken L.size (map fault_entry (block_faults rule (sheet_of words.now) block)) (longest_fault_line * step_total words.now block) lines.old lines.new }
 {
     let first = loaded::first_step(words, block);
     let count = loaded::step_total(words, block);
     let mut t = cells::load(words, STATE_BASE + block * STATE_WORDS);
-    let mut next = at;
     for place in 0..count {
         let action = loaded::action_at(words, first + place);
-        let checked = steps::check(words, t, action);
-        let inst = steps::inst_of(action);
-        let position = Position { block, place, inst };
-        next = count_or_write(pass, report, next, position, checked);
+        if let Err(error) = steps::check(words, t, action) {
+            let inst = steps::inst_of(action);
+            lines.fault(Position { block, place, inst }, error);
+        }
         steps::update(words, rule, &mut t, action);
     }
-    next
 }
 
 // A block's lines: one of its own where it has no mark, else those of its faults.
-fn block_lines(
-    pass: Pass,
-    rule: Rule,
-    words: &[u16],
-    report: &mut [u8],
-    at: usize,
-    block: usize,
-) -> usize
-    requires { Checkable rule words.now × (block < get_or words.now blocks_word 0) × (at + longest_fault_line * step_total words.now block + longest_unreached_line ≤ length report.old) }
-    ensures { AfterPass pass (block_entries rule (sheet_of words.now) block) report.old at report.new result × (result ≤ at + longest_fault_line * step_total words.now block + longest_unreached_line) }
+fn block_lines<L: Lines>(lines: &mut L, rule: Rule, words: &[u16], block: usize)
+    requires { Checkable rule words.now × (block < get_or words.now blocks_word 0) × (L.taken lines.old + longest_fault_line * step_total words.now block + longest_unreached_line ≤ L.size lines.old) }
+    ensures { AfterPass L.told L.taken L.size (block_entries rule (sheet_of words.now) block) (longest_fault_line * step_total words.now block + longest_unreached_line) lines.old lines.new }
 {
     if words[MARK_BASE + block] == 0 {
-        return note_unreached(pass, report, at, block);
+        lines.unreached(block);
+    } else {
+        check_block(lines, rule, words, block);
     }
-    check_block(pass, rule, words, report, at, block)
 }
 
 // Every block's lines.
-fn find_errors(pass: Pass, rule: Rule, words: &[u16], report: &mut [u8], at: usize) -> usize
-    requires { Checkable rule words.now × (at + longest_fault_line * max_steps + longest_unreached_line * max_blocks ≤ length report.old) }
-    ensures { AfterPass pass (find_errors rule (sheet_of words.now)) report.old at report.new result × (result ≤ at + longest_fault_line * max_steps + longest_unreached_line * max_blocks) }
+fn find_errors<L: Lines>(lines: &mut L, rule: Rule, words: &[u16])
+    requires { Checkable rule words.now × (L.taken lines.old + longest_fault_line * max_steps + longest_unreached_line * max_blocks ≤ L.size lines.old) }
+    ensures { AfterPass L.told L.taken L.size (find_errors rule (sheet_of words.now)) (longest_fault_line * max_steps + longest_unreached_line * max_blocks) lines.old lines.new }
 {
-    let blocks = loaded::blocks(words);
-    let mut next = at;
-    for block in 0..blocks {
-        next = block_lines(pass, rule, words, report, next, block);
+    for block in 0..loaded::blocks(words) {
+        block_lines(lines, rule, words, block);
     }
-    next
 }
 
 // The lines of the blocks without a mark: all lines of a sheet without a fault, whose steps are not looked at again.
@@ -316,10 +336,14 @@ pub fn write_errors(rule: Rule, words: &[u16], report: &mut [u8]) -> Answer
     requires { Checkable rule words.now × (report_size ≤ length report.old) }
     ensures { Reported rule (entries rule (sheet_of words.now)) report.old result report.new }
 {
-    let count = find_errors(Pass::Count, rule, words, report, 0);
+    let mut counted = Counted { faults: 0 };
+    find_errors(&mut counted, rule, words);
+    let count = counted.faults;
     let next = report::write_header(report, 0, rule, count);
     if count == 0 {
         return Answer::Accepted(write_unmarked(words, report, next));
     }
-    Answer::Faulty(find_errors(Pass::Write, rule, words, report, next))
+    let mut written = Written { report, at: next };
+    find_errors(&mut written, rule, words);
+    Answer::Faulty(written.at)
 }

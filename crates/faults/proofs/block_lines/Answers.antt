@@ -2,10 +2,11 @@
 -- (`unmarked_entries`); any other has the lines of its faults (`marked_entries`).
 use native.Mathlib.Omega.{arith}
 use Rattle.faults.proofs.LawsBlock.{unmarked_entries, marked_entries}
+use Rattle.faults.proofs.LawsPasses.{pass_within}
 use Rattle.faults.proofs.block_lines.Goals as goal
 
 pub returns-then-words-block-eq0 : goal.returns-then-words-block-eq0
-returns-then-words-block-eq0 c = (rw (unmarked_entries c.requires.0 c.requires.1 c.if-words-block-eq0.true) c.note_unreached.ensures.0, omega arith)
+returns-then-words-block-eq0 g c = rw (unmarked_entries c.requires.0 c.requires.1 c.if-words-block-eq0.true) (pass_within (omega arith) c.unreached.ensures)
 
-pub returns : goal.returns
-returns c = (rw (marked_entries c.requires.0 c.requires.1 c.if-words-block-eq0.false) c.check_block.ensures.0, omega arith)
+pub returns-else-words-block-eq0 : goal.returns-else-words-block-eq0
+returns-else-words-block-eq0 g c = rw (marked_entries c.requires.0 c.requires.1 c.if-words-block-eq0.false) (pass_within (omega arith) c.check_block.ensures)
