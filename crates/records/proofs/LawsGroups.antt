@@ -2,14 +2,18 @@
 use mathlib.Core.Path.{◌≡◌, refl, sym, ap, ap₂, ◌∙◌}
 use mathlib.Core.Bool.{Bool, true, false, ◌&&◌, ◌||◌, or_assoc, true≢false}
 use mathlib.Core.List.{List, [], ◌∷◌, map}
+use Rattle.std.specs.List.{list_any}
 use mathlib.Core.Option.{Option, none, some}
-use Prim.Native.Nat.{ℕ, zero, suc, ◌+◌, ◌-◌, ◌≤◌, ◌<◌}
+use Prim.Native.Nat.{ℕ, zero, suc, ◌-◌, ◌≤◌, ◌<◌}
 use native.Mathlib.Decide.{ℕ_discrete}
 use native.Mathlib.Omega.{arith}
 use borrow.Author.Tests.{lt-ltb, le-ltb, ltb-false}
 use lib.Dec.{leb, ltb}
-use lib.ListN.{length, get_or, take, drop}
+use denote.Param.Members.{Mut, Called}
+use Rattle.std.specs.Array.{IsMapOf}
+use lib.ListN.{length, get_or, take}
 use lib.Seq.{take_all}
+use Rattle.std.proofs.lemmas.List.{take-map, length-map, get_or-map, ext_get_or}
 use Rattle.lists.specs.Split.{by_test, by_order, or_left, or_right}
 use Rattle.paper.specs.Text.{Name, real, virtual, name_same}
 use Rattle.paper.specs.Sheet.{Operand, operation, Sheet}
@@ -20,11 +24,10 @@ use Rattle.records.specs.declared.Place.{Place}
 use Rattle.std.specs.Prelude.{Ok, Err}
 use Rattle.std.specs.declared.result.Result.{Result}
 use Rattle.records.specs.declared.Breach.{Breach}
+use Rattle.records.specs.declared.OperandCodes.{OperandCodes}
 use Rattle.records.specs.declared.Operands.{Operands}
 use Rattle.records.specs.Records.{holding, judged_of, name_of_code, register_of_code, Placed, Counted}
-use Rattle.records.specs.Parts.{counted, operand_of_codes, operands_of_codes, held, Roomy, OperandsKept, group_over, OperationWithin, below}
-use Rattle.records.proofs.LawsOperands.{codes_length, codes_at}
-use Rattle.records.proofs.LawsSearch.{any_past, any_here, any_on}
+use Rattle.records.specs.Parts.{counted, operand_meant, no_codes, operand_of_codes, held, OperandsKept, group_over, OperationWithin, below}
 use Rattle.records.proofs.LawsTold.{clear_of, Tested}
 
 pub operand_limit : (n r : ℕ) (counts : Counts) {b : Bool} → b ≡ name_beyond (counted counts) (name_of_code n)
@@ -34,48 +37,40 @@ operand_limit n r counts e = by_test (ltb r 100000) (λ t. rw (e, t)) λ t. rw (
 
 -- a search through a group
 
-same_length : {g : Operands} → Roomy g → length g.names ≡ length g.registers
-same_length room = room.names_room ∙ sym room.registers_room
+any_meant : (test : Operand → Bool) (cs : List OperandCodes) → list_any (λ c. test (operand_meant c)) cs ≡ any test (map operand_meant cs)
+unfolding any
+any_meant test [] = refl
+any_meant test (c ∷ cs) = rw (any_meant test cs)
 
-module _ (g : Operands) (room : Roomy g) (test : Operand → Bool) (i : ℕ) (few : g.count ≤ 8) where
-  enough : g.count ≤ length (operands_of_codes g.names g.registers)
-  enough = omega (arith, codes_length g.names g.registers (same_length room), room.names_room)
-
-  pub held_past : g.count ≤ i → any test (drop i (held g)) ≡ false
-  unfolding held
-  held_past p = any_past _ g.count i enough test p
-
-  module _ (p : i < g.count) where
-    at_codes : get_or (operands_of_codes g.names g.registers) i (operand_of_codes 0 0) ≡ operand_of_codes (get_or g.names i 0) (get_or g.registers i 0)
-    at_codes = codes_at g.names g.registers i (operand_of_codes 0 0) (same_length room) (omega (arith, room.names_room))
-
-    pub held_here : test (operand_of_codes (get_or g.names i 0) (get_or g.registers i 0)) ≡ true → any test (drop i (held g)) ≡ true
-    unfolding held
-    held_here t = any_here _ g.count i enough test (operand_of_codes 0 0) _ p at_codes t
-
-    pub held_on : test (operand_of_codes (get_or g.names i 0) (get_or g.registers i 0)) ≡ false → any test (drop i (held g)) ≡ any test (drop (i + 1) (held g))
-    unfolding held
-    held_on t = any_on _ g.count i enough test (operand_of_codes 0 0) _ p at_codes t
+pub held_any : (g : Operands) (test : Operand → Bool) → list_any (λ c. test (operand_meant c)) (take g.count g.operands) ≡ any test (held g)
+unfolding held
+held_any g test = any_meant test (take g.count g.operands)
 
 -- names and registers by their numbers
 
-codes_names : (count : ℕ) (ns rs : List ℕ) → length ns ≡ length rs → names (take count (operands_of_codes ns rs)) ≡ map name_of_code (take count ns)
-unfolding names operands_of_codes
-codes_names zero ns rs e = refl
-codes_names (suc count) [] rs e = refl
-codes_names (suc count) (n ∷ ns) [] e = absurd (omega arith)
-codes_names (suc count) (n ∷ ns) (r ∷ rs) e = ap (λ t. name_of_code n ∷ t) (codes_names count ns rs (omega arith))
+abbrev pub name_code : OperandCodes → ℕ
+name_code c = c.name
 
-codes_registers : (count : ℕ) (ns rs : List ℕ) → length ns ≡ length rs → allocated (take count (operands_of_codes ns rs)) ≡ below 100000 (take count rs)
-unfolding allocated operands_of_codes below register_of_code
-codes_registers zero ns rs e = refl
-codes_registers (suc count) [] [] e = refl
-codes_registers (suc count) [] (r ∷ rs) e = absurd (omega arith)
-codes_registers (suc count) (n ∷ ns) [] e = absurd (omega arith)
-codes_registers (suc count) (n ∷ ns) (r ∷ rs) e =
-    by_test (ltb r 100000)
-    (λ t. rw (t, codes_registers count ns rs (omega arith)))
-    λ t. rw (t, codes_registers count ns rs (omega arith))
+abbrev pub register_code : OperandCodes → ℕ
+register_code c = c.register
+
+-- what `map` over an array gives, where each call gives `h` of its element
+pub mapped : {F A : Type 0} {g : Mut F (A × Unit {0}) ℕ} {f : F} {xs : List A} {ys : List ℕ} {n : ℕ} → IsMapOf g f xs ys n → length xs ≡ n → (h : A → ℕ) (d : A)
+    → ((p : F) (x : A) (y : ℕ) (q : F) → Called g p (x, tt) y q → y ≡ h x) → ys ≡ map h xs
+mapped {xs = xs} {ys = ys} m e h d call =
+    ext_get_or 0 ys (map h xs) (m.long ∙ sym (length-map xs h ∙ e)) λ k q.
+    let at = m.at k d 0 (omega (arith, m.long)) in
+    call at.0 (get_or xs k d) (get_or ys k 0) at.1 at.2 ∙ sym (get_or-map h xs k d 0 (omega (arith, m.long)))
+
+codes_names : (cs : List OperandCodes) → names (map operand_meant cs) ≡ map name_of_code (map name_code cs)
+unfolding names
+codes_names [] = refl
+codes_names (c ∷ cs) = ap (λ t. name_of_code c.name ∷ t) (codes_names cs)
+
+codes_registers : (cs : List OperandCodes) → allocated (map operand_meant cs) ≡ below 100000 (map register_code cs)
+unfolding allocated below register_of_code
+codes_registers [] = refl
+codes_registers (c ∷ cs) = by_test (ltb c.register 100000) (λ t. rw (t, codes_registers cs)) λ t. rw (t, codes_registers cs)
 
 name_code_one : (x y : ℕ) → name_of_code x ≡ name_of_code y → x ≡ y
 unfolding name_of_code
@@ -107,21 +102,23 @@ unfolding repeats
 repeats_names [] = refl
 repeats_names (x ∷ l) = rw (any_name x l, repeats_names l)
 
-all_below : (limit count : ℕ) (l : List ℕ) → ((k : ℕ) → get_or l k 0 < limit) → below limit (take count l) ≡ take count l
+all_below : (limit count : ℕ) (cs : List OperandCodes) → ((k : ℕ) → (get_or cs k no_codes).name < limit)
+    → below limit (take count (map name_code cs)) ≡ take count (map name_code cs)
 unfolding below
-all_below limit zero l h = refl
+all_below limit zero cs h = refl
 all_below limit (suc count) [] h = refl
-all_below limit (suc count) (x ∷ l) h = rw (lt-ltb x limit (h zero), all_below limit count l (λ k. h (suc k)))
+all_below limit (suc count) (c ∷ cs) h = rw (lt-ltb c.name limit (h zero), all_below limit count cs (λ k. h (suc k)))
 
 module _ {us : List Operand} {g : Operands} (k : OperandsKept us g) where
-  held_names : repeats name_same (names (held g)) ≡ repeats ℕ_discrete (below 200000 (take g.count g.names))
+  held_names : repeats name_same (names (held g)) ≡ repeats ℕ_discrete (below 200000 (take g.count (map name_code g.operands)))
   unfolding held
   held_names =
-      rw (codes_names g.count g.names g.registers (same_length k.room), repeats_names (take g.count g.names), all_below 200000 g.count g.names k.small)
+      rw (codes_names (take g.count g.operands), all_below 200000 g.count g.operands k.small, take-map name_code g.count g.operands)
+      (repeats_names (map name_code (take g.count g.operands)))
 
-  held_registers : repeats ℕ_discrete (allocated (held g)) ≡ repeats ℕ_discrete (below 100000 (take g.count g.registers))
+  held_registers : repeats ℕ_discrete (allocated (held g)) ≡ repeats ℕ_discrete (below 100000 (take g.count (map register_code g.operands)))
   unfolding held
-  held_registers = rw (codes_registers g.count g.names g.registers (same_length k.room))
+  held_registers = rw (codes_registers (take g.count g.operands), take-map register_code g.count g.operands)
 
   -- eight operands or fewer are all held
   pub held_all : g.count ≤ 8 → us ≡ held g
@@ -224,8 +221,8 @@ module _ {us ds : List Operand} {uses defs : Operands} (ku : OperandsKept us use
     all_defs : ds ≡ held defs
     all_defs = held_all kd (group_few counts defs (sym ed ∙ defs_pass inst gu gd b))
 
-    pub operation_tested : {ru rd rr lu ld : Bool} → ru ≡ repeats ℕ_discrete (below 200000 (take uses.count uses.names))
-        → rd ≡ repeats ℕ_discrete (below 200000 (take defs.count defs.names)) → rr ≡ repeats ℕ_discrete (below 100000 (take defs.count defs.registers))
+    pub operation_tested : {ru rd rr lu ld : Bool} → ru ≡ repeats ℕ_discrete (below 200000 (take uses.count (map name_code uses.operands)))
+        → rd ≡ repeats ℕ_discrete (below 200000 (take defs.count (map name_code defs.operands))) → rr ≡ repeats ℕ_discrete (below 100000 (take defs.count (map register_code defs.operands)))
         → lu ≡ any (λ u. elsewhere u.name u.reg) (held uses) → ld ≡ any (λ u. elsewhere u.name u.reg) (held defs)
         → Tested so (step_record (operation inst us ds)) place (ltb 65535 inst || (gu || gd)) (ru || (rd || rr)) (lu || ld) false
     unfolding out_of_order step_out_of_order real_elsewhere types_differ

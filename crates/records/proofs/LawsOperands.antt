@@ -1,19 +1,20 @@
 -- `n (name reg)*n`: operands read one by one, the first eight kept as numbers.
 use mathlib.Core.Path.{◌≡◌, refl, sym, ap, ◌∙◌}
+use mathlib.Core.List as list
 use mathlib.Core.List.{List, [], ◌∷◌, ◌++◌, append-nil, append_assoc}
 use mathlib.Core.Option.{Option, none, some, map}
 use Prim.Native.Nat.{ℕ, zero, suc, ◌+◌, ◌-◌, ◌≤◌, ◌<◌}
-use native.Mathlib.Nat.{not-suc-le-zero}
-use native.Mathlib.Numerals.{add-one}
 use native.Mathlib.Omega.{arith}
 use lib.ListN.{length, get_or, take, set, replicate, length-append, length-set}
-use lib.Seq.{take_all, take-suc-set, take-append-le}
+use lib.Seq.{take_all, take-append-le}
+use Rattle.std.proofs.lemmas.List.{map-append, take_more_set}
 use Rattle.paper.specs.Text.{Bytes, number_of, Name, name_of}
 use Rattle.paper.specs.Sheet.{Operand}
 use Rattle.paper.specs.Refusals.{Read, next, ◌>>=◌, allocation_of, operands_of, counted_operands_of}
 use Rattle.fields.specs.Fields.{line_end, fields_behind}
+use Rattle.records.specs.declared.OperandCodes.{OperandCodes}
 use Rattle.records.specs.Records.{Behind, Next}
-use Rattle.records.specs.Parts.{put_first, NextOperand, operand_of_codes, operands_of_codes, held, GroupRead}
+use Rattle.records.specs.Parts.{put_first, NextOperand, operand_meant, no_codes, held, GroupRead}
 
 -- one operand
 
@@ -42,39 +43,18 @@ module _ {s : Bytes} {at : ℕ} {a : Name} {mid : ℕ} (w : Next name_of s at a 
 
 -- the first eight in numbers
 
-pub codes_length : (names registers : List ℕ) → length names ≡ length registers → length (operands_of_codes names registers) ≡ length names
-unfolding operands_of_codes
-codes_length [] registers e = refl
-codes_length (n ∷ names) [] e = absurd (omega arith)
-codes_length (n ∷ names) (r ∷ registers) e = ap suc (codes_length names registers (omega arith))
-
-pub codes_at : (names registers : List ℕ) (i : ℕ) (d : Operand) → length names ≡ length registers → i < length names
-    → get_or (operands_of_codes names registers) i d ≡ operand_of_codes (get_or names i 0) (get_or registers i 0)
-unfolding operands_of_codes
-codes_at [] registers i d e h = absurd (not-suc-le-zero h)
-codes_at (n ∷ names) [] i d e h = absurd (omega arith)
-codes_at (n ∷ names) (r ∷ registers) zero d e h = refl
-codes_at (n ∷ names) (r ∷ registers) (suc i) d e h = codes_at names registers i d (omega arith) (omega arith)
-
-codes_set : (names registers : List ℕ) (i a b : ℕ) → length names ≡ length registers
-    → operands_of_codes (set names i a) (set registers i b) ≡ set (operands_of_codes names registers) i (operand_of_codes a b)
-unfolding operands_of_codes
-codes_set [] registers i a b e = refl
-codes_set (n ∷ names) [] i a b e = absurd (omega arith)
-codes_set (n ∷ names) (r ∷ registers) zero a b e = refl
-codes_set (n ∷ names) (r ∷ registers) (suc i) a b e = ap (λ t. operand_of_codes n r ∷ t) (codes_set names registers i a b (omega arith))
-
-pub zeros_small : (n k limit : ℕ) → 0 < limit → get_or (replicate n 0) k 0 < limit
+pub zeros_small : (n k limit : ℕ) → 0 < limit → (get_or (replicate n no_codes) k no_codes).name < limit
 zeros_small zero k limit h = h
 zeros_small (suc n) zero limit h = h
 zeros_small (suc n) (suc k) limit h = zeros_small n k limit h
 
-set_small : (l : List ℕ) (i a limit : ℕ) → a < limit → ((k : ℕ) → get_or l k 0 < limit) → (k : ℕ) → get_or (set l i a) k 0 < limit
-set_small [] i a limit h p k = p k
-set_small (x ∷ l) zero a limit h p zero = h
-set_small (x ∷ l) zero a limit h p (suc k) = p (suc k)
-set_small (x ∷ l) (suc i) a limit h p zero = p zero
-set_small (x ∷ l) (suc i) a limit h p (suc k) = set_small l i a limit h (λ j. p (suc j)) k
+set_small : (l : List OperandCodes) (i : ℕ) (c : OperandCodes) (limit : ℕ) → c.name < limit → ((k : ℕ) → (get_or l k no_codes).name < limit)
+    → (k : ℕ) → (get_or (set l i c) k no_codes).name < limit
+set_small [] i c limit h p k = p k
+set_small (x ∷ l) zero c limit h p zero = h
+set_small (x ∷ l) zero c limit h p (suc k) = p (suc k)
+set_small (x ∷ l) (suc i) c limit h p zero = p zero
+set_small (x ∷ l) (suc i) c limit h p (suc k) = set_small l i c limit h (λ j. p (suc j)) k
 
 -- a group, one operand after the other
 
@@ -82,15 +62,14 @@ unfoldable pub put_all : List Operand → Read (List Operand) → Read (List Ope
 put_all us more = record { value = us ++ more.value; rest = more.rest }
 
 -- of n operands behind `first`, the first `count` are read
-pub record Grouping (s : Bytes) (first n count : ℕ) (names registers : List ℕ) (i : ℕ) : Type 0 where
+pub record Grouping (s : Bytes) (first n count : ℕ) (operands : List OperandCodes) (i : ℕ) : Type 0 where
   pub done : List Operand
   pub whole : operands_of n (fields_behind s first) ≡ map (put_all done) (operands_of (n - count) (fields_behind s i))
   pub counted : length done ≡ count
   pub most : count ≤ n
-  pub kept : take 8 done ≡ take count (operands_of_codes names registers)
-  pub small : (k : ℕ) → get_or names k 0 < 200000
-  pub names_room : length names ≡ 8
-  pub registers_room : length registers ≡ 8
+  pub kept : take 8 done ≡ list.map operand_meant (take count operands)
+  pub small : (k : ℕ) → (get_or operands k no_codes).name < 200000
+  pub room : length operands ≡ 8
   pub behind : Behind s i
   pub line : line_end s i ≡ line_end s first
 
@@ -104,9 +83,9 @@ unfolding put_all
 put_both us u none = refl
 put_both us u (some x) = rw append_assoc
 
-pub grouping_none : {s : Bytes} {first : ℕ} (n : ℕ) (names registers : List ℕ) → Behind s first → length names ≡ 8 → length registers ≡ 8 → ((k : ℕ) → get_or names k 0 < 200000)
-    → Grouping s first n 0 names registers first
-grouping_none {s} {first} n names registers b e f small =
+pub grouping_none : {s : Bytes} {first : ℕ} (n : ℕ) (operands : List OperandCodes) → Behind s first → length operands ≡ 8
+    → ((k : ℕ) → (get_or operands k no_codes).name < 200000) → Grouping s first n 0 operands first
+grouping_none {s} {first} n operands b e small =
     let z : n - 0 ≡ n = omega arith in
     record {
       done = [];
@@ -115,13 +94,12 @@ grouping_none {s} {first} n names registers b e f small =
       most = omega arith;
       kept = refl;
       small = small;
-      names_room = e;
-      registers_room = f;
+      room = e;
       behind = b;
       line = refl;
     }
 
-module _ {s : Bytes} {first n count : ℕ} {names registers : List ℕ} {i : ℕ} (g : Grouping s first n count names registers i) where
+module _ {s : Bytes} {first n count : ℕ} {operands : List OperandCodes} {i : ℕ} (g : Grouping s first n count operands i) where
   -- one more is asked for
   asked : count < n → n - count ≡ suc (n - (count + 1))
   asked h = omega arith
@@ -129,46 +107,39 @@ module _ {s : Bytes} {first n count : ℕ} {names registers : List ℕ} {i : ℕ
   pub grouping_bad : count < n → ((m : ℕ) → operands_of (suc m) (fields_behind s i) ≡ none) → operands_of n (fields_behind s first) ≡ none
   grouping_bad h e = g.whole ∙ rw (asked h, e (n - (count + 1)))
 
-  codes_room : length (operands_of_codes names registers) ≡ 8
-  codes_room = codes_length names registers (g.names_room ∙ sym g.registers_room) ∙ g.names_room
-
-  further : {u : Operand} {after : ℕ} {names' registers' : List ℕ} → count < n → NextOperand s i u after → length names' ≡ 8 → length registers' ≡ 8 → ((k : ℕ) → get_or names' k 0 < 200000)
-      → take 8 (g.done ++ (u ∷ [])) ≡ take (count + 1) (operands_of_codes names' registers') → Grouping s first n (count + 1) names' registers' after
-  further {u} {after} h w a b c e = record {
+  further : {u : Operand} {after : ℕ} {operands' : List OperandCodes} → count < n → NextOperand s i u after → length operands' ≡ 8
+      → ((k : ℕ) → (get_or operands' k no_codes).name < 200000) → take 8 (g.done ++ (u ∷ [])) ≡ list.map operand_meant (take (count + 1) operands')
+      → Grouping s first n (count + 1) operands' after
+  further {u} {after} h w a c e = record {
     done = g.done ++ (u ∷ []);
     whole = g.whole ∙ rw (asked h, w.says (n - (count + 1))) (put_both g.done u (operands_of (n - (count + 1)) (fields_behind s after)));
     counted = rw (length-append) (omega (arith, g.counted));
     most = omega arith;
     kept = e;
     small = c;
-    names_room = a;
-    registers_room = b;
+    room = a;
     behind = w.behind;
     line = w.line ∙ g.line;
   }
 
   -- from the ninth on nothing is kept
-  pub grouping_past : {u : Operand} {after : ℕ} → count < n → NextOperand s i u after → 8 ≤ count → Grouping s first n (count + 1) names registers after
+  pub grouping_past : {u : Operand} {after : ℕ} → count < n → NextOperand s i u after → 8 ≤ count → Grouping s first n (count + 1) operands after
   grouping_past {u} h w p =
-      let l : length (operands_of_codes names registers) ≡ 8 = codes_room in
-      further h w g.names_room g.registers_room g.small
+      further h w g.room g.small
       (take-append-le 8 g.done (u ∷ []) (omega (arith, g.counted))
       ∙ g.kept
-      ∙ take_all count (operands_of_codes names registers) (omega arith)
-      ∙ sym (take_all (count + 1) (operands_of_codes names registers) (omega arith)))
+      ∙ ap (list.map operand_meant) (take_all count operands (omega (arith, g.room)) ∙ sym (take_all (count + 1) operands (omega (arith, g.room)))))
 
-  pub grouping_more : {a after : ℕ} (b : ℕ) → count < n → NextOperand s i (operand_of_codes a b) after → a < 200000 → count < 8
-      → Grouping s first n (count + 1) (set names count a) (set registers count b) after
-  grouping_more {a} {after} b h w small p =
-      let l : length (operands_of_codes names registers) ≡ 8 = codes_room in
-      let e : length (g.done ++ (operand_of_codes a b ∷ [])) ≡ count + 1 = rw (length-append, g.counted) in
-      further h w (simp length-set g.names_room) (simp length-set g.registers_room) (set_small names count a 200000 small g.small)
-      (take_all 8 (g.done ++ (operand_of_codes a b ∷ [])) (omega arith)
-      ∙ ap (λ t. t ++ (operand_of_codes a b ∷ [])) (sym (take_all 8 g.done (omega (arith, g.counted))) ∙ g.kept)
-      ∙ sym (ap (λ t. take (count + 1) t) (codes_set names registers count a b (g.names_room ∙ sym g.registers_room))
-      ∙ rw add-one (take-suc-set (operands_of_codes names registers) count (operand_of_codes a b) (omega arith))))
+  pub grouping_more : {after : ℕ} (c : OperandCodes) → count < n → NextOperand s i (operand_meant c) after → c.name < 200000 → count < 8
+      → Grouping s first n (count + 1) (set operands count c) after
+  grouping_more {after} c h w small p =
+      let e : length (g.done ++ (operand_meant c ∷ [])) ≡ count + 1 = rw (length-append, g.counted) in
+      further h w (simp length-set g.room) (set_small operands count c 200000 small g.small)
+      (take_all 8 (g.done ++ (operand_meant c ∷ [])) (omega arith)
+      ∙ ap (λ t. t ++ (operand_meant c ∷ [])) (sym (take_all 8 g.done (omega (arith, g.counted))) ∙ g.kept)
+      ∙ sym (ap (list.map operand_meant) (take_more_set operands count c (omega (arith, g.room))) ∙ map-append operand_meant (take count operands) (c ∷ [])))
 
-  pub grouping_done : {at : ℕ} → n ≤ count → Next number_of s at n first → GroupRead s at (record { count = n; names = names; registers = registers }) i
+  pub grouping_done : {at : ℕ} → n ≤ count → Next number_of s at n first → GroupRead s at (record { count = n; operands = operands }) i
   unfolding operands_of put_all counted_operands_of held
   grouping_done p w =
       let z : n - count ≡ 0 = omega arith in
@@ -178,9 +149,9 @@ module _ {s : Bytes} {first n count : ℕ} {names registers : List ℕ} {i : ℕ
         says = rw (w.says, g.whole, z, append-nil);
         kept = record {
           counted = g.counted ∙ all;
-          kept = g.kept ∙ ap (λ m. take m (operands_of_codes names registers)) all;
+          kept = g.kept ∙ ap (λ m. list.map operand_meant (take m operands)) all;
           small = g.small;
-          room = record { names_room = g.names_room; registers_room = g.registers_room };
+          room = record { room = g.room };
         };
         behind = g.behind;
         line = g.line ∙ w.line;

@@ -8,8 +8,9 @@ use Prim.Native.Nat.{ℕ, ◌+◌, ◌-◌, ◌*◌, ◌/◌, ◌%◌, ◌≤◌
 use native.Mathlib.Omega.{arith}
 use borrow.Author.Tests.{lt-ltb, le-ltb, leb-false, ne_eqb}
 use lib.Dec.{eqb}
-use lib.ListN.{length, get_or, take, drop, length-take, length-drop, length-map, get_or-map}
-use lib.Seq.{ext_get_or, get_or-take, get_or-drop, length-take-le}
+use lib.ListN.{length, get_or, take, drop, length-take, length-drop, length-map}
+use Rattle.std.proofs.lemmas.List.{length-take-le, get_or-map}
+use lib.Seq.{ext_get_or, get_or-take, get_or-drop}
 use Rattle.lists.specs.Over.{over, length_over, getD_over_in, getD_over_below}
 use Rattle.lists.specs.Region.{region}
 use Rattle.lists.specs.Split.{by_test, by_order, or_left, or_right}
@@ -17,14 +18,15 @@ use Rattle.paper.specs.Text.{real}
 use Rattle.paper.specs.Sheet.{Operand, Sheet, reference_typed}
 use Rattle.paper.specs.Refusals.{any, name_beyond, reg_beyond, operand_beyond}
 use Rattle.loaded.specs.declared.Counts.{Counts}
+use Rattle.records.specs.declared.OperandCodes.{OperandCodes}
 use Rattle.records.specs.declared.Operands.{Operands}
 use Rattle.cells.specs.Packed.{name_of_word, marked}
 use Rattle.loaded.specs.Actions.{no_register, register_of, operand_of, operands}
 use Rattle.records.specs.Records.{CountsWithin, TypedBy, name_of_code, register_of_code}
 use Rattle.loaded.specs.Filling.{GroupWithin}
-use Rattle.records.specs.Parts.{counted, operand_of_codes, operands_of_codes, held, Roomy, name_word, register_word, mark_word, is_typed, word, Small}
-use Rattle.records.proofs.LawsOperands.{codes_length, codes_at}
-use Rattle.records.proofs.LawsSearch.{any_each}
+use Rattle.records.specs.Parts.{counted, operand_meant, no_codes, held, Roomy, name_word, register_word, mark_word, is_typed, word, Small}
+use Rattle.records.proofs.LawsSearch.{any_each, any_list}
+use Rattle.records.proofs.LawsGroups.{held_any}
 
 pub mark_most : (typed : List ℕ) (n : ℕ) → mark_word typed n ≤ 512
 unfolding mark_word
@@ -57,35 +59,35 @@ register_word_means r h =
     (λ p. let q : r < 63 = h p in rw (lt-ltb r 100000 p, ne_eqb r 63 (λ e. omega arith)))
     λ p. rw (le-ltb r 100000 p)
 
-module _ (typed : List ℕ) (n r : ℕ) (small : Small n r) where
-  low : word typed n r % 512 ≡ name_word n
+module _ (typed : List ℕ) (c : OperandCodes) (small : Small c) where
+  low : word typed c % 512 ≡ name_word c.name
   unfolding word
-  low = mark_cases typed n (λ m e. rw m (omega (arith, small.name_small))) λ m e. rw m (omega (arith, small.name_small))
+  low = mark_cases typed c.name (λ m e. rw m (omega (arith, small.name_small))) λ m e. rw m (omega (arith, small.name_small))
 
-  word_register : word typed n r / 1024 ≡ register_word r
+  word_register : word typed c / 1024 ≡ register_word c.register
   unfolding word
-  word_register = mark_cases typed n (λ m e. rw m (omega (arith, small.name_small))) λ m e. rw m (omega (arith, small.name_small))
+  word_register = mark_cases typed c.name (λ m e. rw m (omega (arith, small.name_small))) λ m e. rw m (omega (arith, small.name_small))
 
-  word_mark : marked (word typed n r) ≡ is_typed typed n
+  word_mark : marked (word typed c) ≡ is_typed typed c.name
   unfolding word marked
   word_mark =
-      mark_cases typed n
+      mark_cases typed c.name
       (λ m e.
-      let k : (register_word r * 1024 + 512 + name_word n) / 512 % 2 ≡ 1 = omega (arith, small.name_small) in
+      let k : (register_word c.register * 1024 + 512 + name_word c.name) / 512 % 2 ≡ 1 = omega (arith, small.name_small) in
       rw (m, e, k))
       λ m e.
-      let k : (register_word r * 1024 + 0 + name_word n) / 512 % 2 ≡ 0 = omega (arith, small.name_small) in
+      let k : (register_word c.register * 1024 + 0 + name_word c.name) / 512 % 2 ≡ 0 = omega (arith, small.name_small) in
       rw (m, e, k)
 
-  word_name : name_of_word (word typed n r) ≡ name_of_code n
+  word_name : name_of_word (word typed c) ≡ name_of_code c.name
   unfolding name_of_word
   word_name =
-      let e : name_word n % 512 ≡ name_word n = omega (arith, small.name_small) in
-      rw low (rw e at (name_word_means n small.name_small small.virtual_small))
+      let e : name_word c.name % 512 ≡ name_word c.name = omega (arith, small.name_small) in
+      rw low (rw e at (name_word_means c.name small.name_small small.virtual_small))
 
-  word_means : (r < 100000 → r < 63) → operand_of (word typed n r) ≡ operand_of_codes n r
+  word_means : (c.register < 100000 → c.register < 63) → operand_of (word typed c) ≡ operand_meant c
   unfolding operand_of register_of
-  word_means h = ap₂ (λ a b. record { name = a; reg = b }) word_name (rw word_register (register_word_means r h))
+  word_means h = ap₂ (λ a b. record { name = a; reg = b }) word_name (rw word_register (register_word_means c.register h))
 
 -- the words of a group
 
@@ -133,23 +135,19 @@ register_word_below {counts} w r b =
 -- where no operand is beyond its limit, each one's codes are within
 module _ {counts : Counts} (w : CountsWithin counts) (g : Operands) (room : Roomy g) (few : g.count ≤ 8)
     (b : any (operand_beyond (counted counts)) (held g) ≡ false) (k : ℕ) (h : k < g.count) where
-  operand_within : operand_beyond (counted counts) (operand_of_codes (get_or g.names k 0) (get_or g.registers k 0)) ≡ false
+  operand_within : operand_beyond (counted counts) (operand_meant (get_or g.operands k no_codes)) ≡ false
   unfolding held
-  operand_within =
-      let e : length g.names ≡ length g.registers = room.names_room ∙ sym room.registers_room in
-      let l : length (operands_of_codes g.names g.registers) ≡ 8 = codes_length g.names g.registers e ∙ room.names_room in
-      rw (codes_at g.names g.registers k (operand_of_codes 0 0) e (omega (arith, room.names_room)))
-      at (any_each (operands_of_codes g.names g.registers) g.count (omega arith) (operand_beyond (counted counts)) (operand_of_codes 0 0) b k h)
+  operand_within = any_each g.operands g.count (omega (arith, room.room)) (λ c. operand_beyond (counted counts) (operand_meant c)) no_codes (sym (any_list _ _) ∙ held_any g (operand_beyond (counted counts)) ∙ b) k h
 
-  name_within : name_beyond (counted counts) (name_of_code (get_or g.names k 0)) ≡ false
+  name_within : name_beyond (counted counts) (name_of_code (get_or g.operands k no_codes).name) ≡ false
   unfolding operand_beyond
   name_within = or_left _ _ operand_within
 
-  register_within : reg_beyond (counted counts) (register_of_code (get_or g.registers k 0)) ≡ false
+  register_within : reg_beyond (counted counts) (register_of_code (get_or g.operands k no_codes).register) ≡ false
   unfolding operand_beyond
-  register_within = or_right (name_beyond (counted counts) (name_of_code (get_or g.names k 0))) _ operand_within
+  register_within = or_right (name_beyond (counted counts) (name_of_code (get_or g.operands k no_codes).name)) _ operand_within
 
-  pub small_within : Small (get_or g.names k 0) (get_or g.registers k 0)
+  pub small_within : Small (get_or g.operands k no_codes)
   small_within = record {
     name_small = name_fits w _ name_within;
     virtual_small = virtual_fits w _ name_within;
@@ -159,14 +157,14 @@ module _ {counts : Counts} (w : CountsWithin counts) (g : Operands) (room : Room
 -- the words of a group stand from `from` on
 pub record Packed (typed : List ℕ) (g : Operands) (from : ℕ) (words : List ℕ) : Type 0 where
   pub room : from + g.count ≤ length words
-  pub each : (k : ℕ) → k < g.count → get_or words (from + k) 0 ≡ word typed (get_or g.names k 0) (get_or g.registers k 0)
+  pub each : (k : ℕ) → k < g.count → get_or words (from + k) 0 ≡ word typed (get_or g.operands k no_codes)
 
 module _ {typed : List ℕ} {g : Operands} {from : ℕ} where
   pub packed : (words : List ℕ) {words' : List ℕ} → from + g.count ≤ length words
-      → words' ≡ over from g.count (λ k x. word typed (get_or g.names k 0) (get_or g.registers k 0)) words → Packed typed g from words'
+      → words' ≡ over from g.count (λ k x. word typed (get_or g.operands k no_codes)) words → Packed typed g from words'
   packed words {words'} h e = record {
-    room = rw (e, length_over from g.count (λ k x. word typed (get_or g.names k 0) (get_or g.registers k 0)) words) h;
-    each = λ k p. rw e (getD_over_in from g.count (λ k x. word typed (get_or g.names k 0) (get_or g.registers k 0)) words k 0 p (omega arith));
+    room = rw (e, length_over from g.count (λ k x. word typed (get_or g.operands k no_codes)) words) h;
+    each = λ k p. rw e (getD_over_in from g.count (λ k x. word typed (get_or g.operands k no_codes)) words k 0 p (omega arith));
   }
 
   -- words written further on change nothing
@@ -182,30 +180,28 @@ module _ {counts : Counts} (w : CountsWithin counts) {g : Operands} (room : Room
   unfolding operands region held
   packed_means =
       let d : Operand = operand_of 0 in
-      let e : length g.names ≡ length g.registers = room.names_room ∙ sym room.registers_room in
-      let l : length (operands_of_codes g.names g.registers) ≡ 8 = codes_length g.names g.registers e ∙ room.names_room in
       let n : length (take g.count (drop from words)) ≡ g.count = simp (length-take, length-drop) (omega (arith, p.room)) in
-      let m : length (take g.count (operands_of_codes g.names g.registers)) ≡ g.count = length-take-le g.count _ (omega arith) in
+      let m : length (map operand_meant (take g.count g.operands)) ≡ g.count = length-map (take g.count g.operands) operand_meant ∙ length-take-le g.count _ (omega (arith, room.room)) in
       let o : length (map operand_of (take g.count (drop from words))) ≡ g.count = length-map (take g.count (drop from words)) operand_of ∙ n in
       ext_get_or d _ _ (o ∙ sym m) λ k h.
       let q : k < g.count = omega arith in
-      get_or-map operand_of (take g.count (drop from words)) k 0
+      get_or-map operand_of (take g.count (drop from words)) k 0 d (omega arith)
       ∙ rw (
         get_or-take g.count (drop from words) k 0 q,
         get_or-drop from words k 0,
         p.each k q,
-        get_or-take g.count (operands_of_codes g.names g.registers) k d q,
-        codes_at g.names g.registers k d e (omega (arith, room.names_room)),
+        get_or-map operand_meant (take g.count g.operands) k no_codes d (omega (arith, room.room, length-take-le g.count g.operands (omega (arith, room.room)))),
+        get_or-take g.count g.operands k no_codes q,
       )
-      (word_means typed _ _ (small_within w g room few b k q) (λ h. omega (arith, register_below w _ (register_within w g room few b k q) h, w.regs)))
+      (word_means typed _ (small_within w g room few b k q) (λ h. omega (arith, register_below w _ (register_within w g room few b k q) h, w.regs)))
 
   pub packed_within : {S : Sheet} → TypedBy S typed → GroupWithin S counts.regs from g.count words
   packed_within {S} t = record {
     few = few;
     registers = λ k q.
         let s = small_within w g room few b k q in
-        rw (p.each k q, word_register typed _ _ s) (register_word_below w _ (register_within w g room few b k q));
+        rw (p.each k q, word_register typed _ s) (register_word_below w _ (register_within w g room few b k q));
     marks = λ k q.
         let s = small_within w g room few b k q in
-        rw (p.each k q, word_mark typed _ _ s, word_name typed _ _ s) (sym (is_typed_right w _ (name_within w g room few b k q) t));
+        rw (p.each k q, word_mark typed _ s, word_name typed _ s) (sym (is_typed_right w _ (name_within w g room few b k q) t));
   }

@@ -1,6 +1,7 @@
 -- What the functions behind the lines tell: of lists of numbers, of groups of operands and the words they are packed in, of slots,
 -- and of the fields of a `C`.
 use Rattle.std.specs.Prelude.{◌≡◌, Bool, false, cond, not, ◌&&◌, ◌||◌, List, [], ◌∷◌, ℕ, zero, suc, ◌+◌, ◌-◌, ◌*◌, ◌^◌, ◌≤◌, ◌<◌, eqb, leb, ltb, length, get_or, take, Some, None, Ok, Err}
+use Rattle.std.specs.Prelude as prelude
 use Rattle.std.specs.declared.option.Option as read
 use Rattle.std.specs.declared.result.Result.{Result}
 use Rattle.std.proofs.Math.Option.{Option, none, some, map}
@@ -15,6 +16,7 @@ use Rattle.records.specs.declared.Place.{Place}
 use Rattle.records.specs.declared.Breach.{Breach}
 use Rattle.records.specs.declared.Numbers.{Numbers}
 use Rattle.records.specs.declared.Change.{Change}
+use Rattle.records.specs.declared.OperandCodes.{OperandCodes}
 use Rattle.records.specs.declared.Operands.{Operands}
 use Rattle.records.specs.declared.Listed.{Listed}
 use Rattle.records.specs.Records.{Behind, Ends, name_of_code, register_of_code}
@@ -60,6 +62,13 @@ ExactlyRead s at n None = exactly n (fields_behind s at) ≡ none
 abbrev pub operand_of_codes : ℕ → ℕ → Operand
 operand_of_codes n r = record { name = name_of_code n; reg = register_of_code r }
 
+abbrev pub operand_meant : OperandCodes → Operand
+operand_meant c = operand_of_codes c.name c.register
+
+-- what stands for a place past the end of a group
+abbrev pub no_codes : OperandCodes
+no_codes = record { name = 0; register = 0 }
+
 abbrev pub put_first : Operand → Read (List Operand) → Read (List Operand)
 put_first u more = record { value = u ∷ more.value; rest = more.rest }
 
@@ -70,28 +79,22 @@ pub record NextOperand (s : Bytes) (at : ℕ) (u : Operand) (after : ℕ) : Type
   pub further : at < after
   pub line : line_end s after ≡ line_end s at
 
-abbrev pub OperandBehind : Bytes → ℕ → read.Option (ℕ × ℕ × ℕ) → Type 0
+abbrev pub OperandBehind : Bytes → ℕ → read.Option (OperandCodes × ℕ) → Type 0
 OperandBehind s at None = (n : ℕ) → operands_of (suc n) (fields_behind s at) ≡ none
-OperandBehind s at (Some x) = NextOperand s at (operand_of_codes x.0 x.1) x.2 × (x.0 < 200000)
-
-unfoldable pub operands_of_codes : List ℕ → List ℕ → List Operand
-operands_of_codes [] registers = []
-operands_of_codes (n ∷ names) [] = []
-operands_of_codes (n ∷ names) (r ∷ registers) = operand_of_codes n r ∷ operands_of_codes names registers
+OperandBehind s at (Some x) = NextOperand s at (operand_meant x.0) x.1 × (x.0.name < 200000)
 
 -- the operands that a group holds: all, where there are at most 8
 unfoldable pub held : Operands → List Operand
-held g = take g.count (operands_of_codes g.names g.registers)
+held g = prelude.map operand_meant (take g.count g.operands)
 
 pub record Roomy (g : Operands) : Type 0 where
-  pub names_room : length g.names ≡ max_operands
-  pub registers_room : length g.registers ≡ max_operands
+  pub room : length g.operands ≡ max_operands
 
 -- the group is of these operands, and holds the first 8
 pub record OperandsKept (us : List Operand) (g : Operands) : Type 0 where
   pub counted : length us ≡ g.count
   pub kept : take max_operands us ≡ held g
-  pub small : (k : ℕ) → get_or g.names k 0 < 200000
+  pub small : (k : ℕ) → (get_or g.operands k no_codes).name < 200000
   pub room : Roomy g
 
 -- `n (name reg)*n` behind `at`
@@ -142,14 +145,14 @@ is_typed typed c = ltb c 256 && not (eqb (get_or typed c 0) 0)
 unfoldable pub mark_word : List ℕ → ℕ → ℕ
 mark_word typed c = cond (is_typed typed c) 512 0
 
-unfoldable pub word : List ℕ → ℕ → ℕ → ℕ
-word typed n r = register_word r * 1024 + mark_word typed n + name_word n
+unfoldable pub word : List ℕ → OperandCodes → ℕ
+word typed c = register_word c.register * 1024 + mark_word typed c.name + name_word c.name
 
 -- the codes of a name and an allocation within the largest counts
-pub record Small (n r : ℕ) : Type 0 where
-  pub name_small : name_word n < 512
-  pub virtual_small : n < 100000 → n < 256
-  pub register_small : register_word r < 64
+pub record Small (c : OperandCodes) : Type 0 where
+  pub name_small : name_word c.name < 512
+  pub virtual_small : c.name < 100000 → c.name < 256
+  pub register_small : register_word c.register < 64
 
 -- slots
 

@@ -14,7 +14,7 @@ ghost use Rattle.paper.specs.Refusals.{function_record, typed_record, block_reco
 ghost use Rattle.layout.specs.Layout.{typed_words, operand_words};
 ghost use Rattle.fields.specs.Fields.{line_end, fields_behind};
 ghost use Rattle.records.specs.Records.{holding, judged_of, told, function_line, typed_line, block_line, pair_line, change_line, operation_line, safepoint_line, Placed, Behind, NumberBehind, NameBehind, AllocationBehind, name_of_code, register_of_code, CountsWithin, Counted, TypedBy, Least, Paired, FunctionClear, TypedClear, BlockClear, PairClear, ChangeClear, OperationClear, SafepointClear};
-ghost use Rattle.records.specs.Parts.{NumbersRead, ExactlyRead, operand_of_codes, OperandBehind, held, Roomy, OperandsKept, OperandsRead, group_over, OperationWithin, below, name_word, register_word, mark_word, is_typed, word, Small, Listing, SlotsRead, counted, ChangeRead};
+ghost use Rattle.records.specs.Parts.{NumbersRead, ExactlyRead, no_codes, operand_meant, OperandBehind, held, Roomy, OperandsKept, OperandsRead, group_over, OperationWithin, below, name_word, register_word, mark_word, is_typed, word, Small, Listing, SlotsRead, counted, ChangeRead};
 
 use cells::MARK;
 use fields::Name;
@@ -134,12 +134,18 @@ pub struct Change {
     pub next: usize,
 }
 
+// An operand: its name and its register, in one number each.
+#[derive(Clone, Copy)]
+pub struct OperandCodes {
+    pub name: u32,
+    pub register: u32,
+}
+
 // A group of operands, `n (name reg)*n`: how many there are, and the first 8.
 #[derive(Clone, Copy)]
 pub struct Operands {
     pub count: usize,
-    pub names: [u32; MAX_OPERANDS],
-    pub registers: [u32; MAX_OPERANDS],
+    pub operands: [OperandCodes; MAX_OPERANDS],
 }
 
 // The slots of a `P` so far: is one beyond the limit, are they out of order, their mask, and the least that may come next.
@@ -447,13 +453,13 @@ pub fn change_line(
 }
 
 // The next two fields of the line, as a name and its allocation.
-fn operand_behind(s: &[u8], at: usize) -> Option<(u32, u32, usize)>
+fn operand_behind(s: &[u8], at: usize) -> Option<(OperandCodes, usize)>
     requires { Behind s.now at }
     ensures { OperandBehind s.now at result }
 {
     let (name, next) = name_behind(s, at)?;
     let (register, end) = allocation_behind(s, next)?;
-    Some((name, register, end))
+    Some((OperandCodes { name, register }, end))
 }
 
 // A group of operands, and the place behind it: the form of all is read, and the first 8 are kept.
@@ -462,21 +468,21 @@ fn read_operands(s: &[u8], at: usize) -> Option<(Operands, usize)>
     ensures { OperandsRead s.now at result }
 {
     let (n, first) = number_behind(s, at)?;
-    let mut names = [0u32; MAX_OPERANDS];
-    let mut registers = [0u32; MAX_OPERANDS];
+    let mut operands = [OperandCodes {
+        name: 0,
+        register: 0,
+    }; MAX_OPERANDS];
     let mut i = first;
     for count in 0..n as usize {
-        let (name, register, next) = operand_behind(s, i)?;
+        let (operand, next) = operand_behind(s, i)?;
         if count < MAX_OPERANDS {
-            names[count] = name;
-            registers[count] = register;
+            operands[count] = operand;
         }
         i = next;
     }
     let group = Operands {
         count: n as usize,
-        names,
-        registers,
+        operands,
     };
     Some((group, i))
 }
@@ -490,18 +496,16 @@ fn group_beyond(g: Operands, counts: Counts) -> bool
     if MAX_OPERANDS < count {
         return true;
     }
-    for i in 0..count {
-        if operand_beyond(g.names[i], g.registers[i], counts) {
-            return true;
-        }
-    }
-    false
+    g.operands[..count]
+        .iter()
+        .any(|&operand| operand_beyond(operand, counts))
 }
 
-fn operand_beyond(name: u32, register: u32, counts: Counts) -> bool
-    ensures { result ≡ operand_beyond (counted counts) (operand_of_codes name register) }
+fn operand_beyond(operand: OperandCodes, counts: Counts) -> bool
+    ensures { result ≡ operand_beyond (counted counts) (operand_meant operand) }
 {
-    name_beyond(name, counts) | ((register < NO_ALLOCATION) & (counts.regs <= register))
+    let register = operand.register;
+    name_beyond(operand.name, counts) | ((register < NO_ALLOCATION) & (counts.regs <= register))
 }
 
 // Does a code below the limit stand twice?
@@ -521,12 +525,9 @@ fn any_elsewhere(g: Operands) -> bool
     requires { Roomy g × (g.count ≤ max_operands) }
     ensures { result ≡ any (λ u. elsewhere u.name u.reg) (held g) }
 {
-    for i in 0..g.count {
-        if is_elsewhere(g.names[i], g.registers[i]) {
-            return true;
-        }
-    }
-    false
+    g.operands[..g.count]
+        .iter()
+        .any(|operand| is_elsewhere(operand.name, operand.register))
 }
 
 pub fn is_elsewhere(name: u32, register: u32) -> bool
@@ -558,11 +559,12 @@ fn judge_operation(
     if beyond {
         return lowest(place, beyond, false, false, false);
     }
-    let used = &uses.names[..uses.count];
-    let defined = &defs.names[..defs.count];
-    let registers = &defs.registers[..defs.count];
-    let disorder = repeated(used, NAMES)
-        | (repeated(defined, NAMES) | repeated(registers, NO_ALLOCATION));
+    let used = uses.operands.map(|operand| operand.name);
+    let defined = defs.operands.map(|operand| operand.name);
+    let registers = defs.operands.map(|operand| operand.register);
+    let disorder = repeated(&used[..uses.count], NAMES)
+        | (repeated(&defined[..defs.count], NAMES)
+            | repeated(&registers[..defs.count], NO_ALLOCATION));
     let elsewhere = any_elsewhere(uses) | any_elsewhere(defs);
     lowest(place, beyond, disorder, elsewhere, false)
 }
@@ -586,11 +588,13 @@ fn mark_word(typed: &[u16], name: u32) -> u16
 }
 
 // An operand in one word: its register, or NO_REGISTER, before the mark and the name as a packed cell has them.
-fn operand_word(name: u32, register: u32, typed: &[u16]) -> u16
-    requires { (length typed.now ≡ typed_words) × Small name register }
-    ensures { result ≡ word typed.now name register }
+fn operand_word(operand: OperandCodes, typed: &[u16]) -> u16
+    requires { (length typed.now ≡ typed_words) × Small operand }
+    ensures { result ≡ word typed.now operand }
 {
-    register_word(register) * REGISTER + mark_word(typed, name) + name_word(name)
+    register_word(operand.register) * REGISTER
+        + mark_word(typed, operand.name)
+        + name_word(operand.name)
 }
 
 // The words of a group, from `from` on.
@@ -600,12 +604,12 @@ fn pack(
     g: Operands,
     typed: &[u16],
 ) -> [u16; OPERAND_WORDS]
-    requires { (length typed.now ≡ typed_words) × (from + g.count ≤ operand_words) × (g.count ≤ max_operands) × ((k : ℕ) → k < g.count → Small (get_or g.names k 0) (get_or g.registers k 0)) }
-    ensures { result ≡ over from g.count (λ k x. word typed.now (get_or g.names k 0) (get_or g.registers k 0)) words }
+    requires { (length typed.now ≡ typed_words) × (from + g.count ≤ operand_words) × (g.count ≤ max_operands) × ((k : ℕ) → k < g.count → Small (get_or g.operands k no_codes)) }
+    ensures { result ≡ over from g.count (λ k x. word typed.now (get_or g.operands k no_codes)) words }
 {
     let mut out = words;
-    for i in 0..g.count {
-        out[from + i] = operand_word(g.names[i], g.registers[i], typed);
+    for (i, &operand) in g.operands[..g.count].iter().enumerate() {
+        out[from + i] = operand_word(operand, typed);
     }
     out
 }

@@ -1,14 +1,15 @@
-use mathlib.Core.Path.{sym, ◌∙◌}
-use Rattle.records.proofs.LawsGroups.{held_past, held_here, held_on}
+-- `records::any_elsewhere` meets its contract: the library's search is that through what the group holds.
+use Rattle.std.proofs.Common.{rules, ◌∙◌, take}
+use Rattle.std.proofs.lemmas.Iterator.{YieldsList-from_slice}
+use Rattle.std.proofs.lemmas.Iterator.Search.{any_from_yields_List}
+use Rattle.paper.specs.Refusals.{elsewhere}
+use Rattle.records.specs.Records.{name_of_code, register_of_code}
+use Rattle.records.proofs.LawsGroups.{held_any}
 use Rattle.records.proofs.any_elsewhere.Goals as goal
 
-pub returns-then-is_elsewhere : goal.returns-then-is_elsewhere
-returns-then-is_elsewhere c =
-    sym (c.loop-i.invariant ∙ held_here _ c.requires.0 _ _ c.requires.1 c.loop-i-test.true (sym c.is_elsewhere.ensures ∙ c.if-is_elsewhere.true))
-
-pub loop-i-preserved : goal.loop-i-preserved
-loop-i-preserved c =
-    c.loop-i.invariant ∙ held_on _ c.requires.0 _ _ c.requires.1 c.loop-i-test.true (sym c.is_elsewhere.ensures ∙ c.if-is_elsewhere.false)
-
 pub returns : goal.returns
-returns c = sym (c.loop-i.invariant ∙ held_past _ c.requires.0 _ _ c.requires.1 c.loop-i-test.false)
+returns c =
+    let g = c.args.g in
+    any_from_yields_List (λ o. elsewhere (name_of_code o.name) (register_of_code o.register)) _ _ _ c.any.ensures.ran
+    (YieldsList-from_slice (take g.count g.operands) cc) (λ x b q k. search rules)
+    ∙ held_any g (λ u. elsewhere u.name u.reg)

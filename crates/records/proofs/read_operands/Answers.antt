@@ -8,18 +8,18 @@ pub returns-in_err-n : goal.returns-in_err-n
 returns-in_err-n c = rw c.from_residual.ensures (group_uncounted _ _ c.in_err-n.ensures)
 
 pub loop-count-init : goal.loop-count-init
-loop-count-init c = grouping_none _ _ _ c.in_ok-n.ensures.0.behind refl refl (λ k. zeros_small 8 k 200000 (omega arith))
+loop-count-init c = grouping_none _ _ c.in_ok-n.ensures.0.behind refl (λ k. zeros_small 8 k 200000 (omega arith))
 
-pub returns-in_err-name : goal.returns-in_err-name
-returns-in_err-name c =
-    rw c.from_residual-in_err-name.ensures (group_bad c.in_ok-n.ensures.0 (grouping_bad c.loop-count.invariant c.loop-count-test.true c.in_err-name.ensures))
+pub returns-in_err-operand : goal.returns-in_err-operand
+returns-in_err-operand c =
+    rw c.from_residual-in_err-operand.ensures (group_bad c.in_ok-n.ensures.0 (grouping_bad c.loop-count.invariant c.loop-count-test.true c.in_err-operand.ensures))
 
 pub loop-count-preserved : goal.loop-count-preserved
 loop-count-preserved c =
-    let w = c.in_ok-name.ensures in
+    let w = c.in_ok-operand.ensures in
     elim c.if-count-lt-MAX_OPERANDS.branch [
-      | then-count-lt-MAX_OPERANDS x ↦ rw (x.registers-is, x.names-is) (grouping_more c.loop-count.invariant _ c.loop-count-test.true w.0 w.1 x.if-count-lt-MAX_OPERANDS.true)
-      | else-count-lt-MAX_OPERANDS x ↦ rw (x.registers-is, x.names-is) (grouping_past c.loop-count.invariant c.loop-count-test.true w.0 x.if-count-lt-MAX_OPERANDS.false)
+      | then-count-lt-MAX_OPERANDS x ↦ rw x.operands-is (grouping_more c.loop-count.invariant _ c.loop-count-test.true w.0 w.1 x.if-count-lt-MAX_OPERANDS.true)
+      | else-count-lt-MAX_OPERANDS x ↦ rw x.operands-is (grouping_past c.loop-count.invariant c.loop-count-test.true w.0 x.if-count-lt-MAX_OPERANDS.false)
     ]
 
 pub returns : goal.returns

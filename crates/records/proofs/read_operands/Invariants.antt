@@ -4,4 +4,4 @@ use Rattle.records.proofs.LawsOperands.{Grouping}
 use Rattle.records.proofs.read_operands.Given as goal
 
 abbrev pub invariant-loop-count : goal.invariant-loop-count
-invariant-loop-count l = Grouping l.s l.first l.n l.count l.names l.registers l.i
+invariant-loop-count l = Grouping l.s l.first l.n l.count l.operands l.i
