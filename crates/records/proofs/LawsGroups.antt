@@ -4,16 +4,13 @@ use mathlib.Core.Bool.{Bool, true, false, ◌&&◌, ◌||◌, or_assoc, true≢f
 use mathlib.Core.List.{List, [], ◌∷◌, map}
 use Rattle.std.specs.List.{list_any}
 use mathlib.Core.Option.{Option, none, some}
-use Prim.Native.Nat.{ℕ, zero, suc, ◌-◌, ◌≤◌, ◌<◌}
+use Prim.Native.Nat.{ℕ, ◌-◌, ◌≤◌}
 use native.Mathlib.Decide.{ℕ_discrete}
 use native.Mathlib.Omega.{arith}
 use borrow.Author.Tests.{lt-ltb, le-ltb, ltb-false}
 use lib.Dec.{leb, ltb}
-use denote.Param.Members.{Mut, Called}
-use Rattle.std.specs.Array.{IsMapOf}
-use lib.ListN.{length, get_or, take}
+use lib.ListN.{length, take}
 use lib.Seq.{take_all}
-use Rattle.std.proofs.lemmas.List.{take-map, length-map, get_or-map, ext_get_or}
 use Rattle.lists.specs.Split.{by_test, by_order, or_left, or_right}
 use Rattle.paper.specs.Text.{Name, real, virtual, name_same}
 use Rattle.paper.specs.Sheet.{Operand, operation, Sheet}
@@ -27,7 +24,7 @@ use Rattle.records.specs.declared.Breach.{Breach}
 use Rattle.records.specs.declared.OperandCodes.{OperandCodes}
 use Rattle.records.specs.declared.Operands.{Operands}
 use Rattle.records.specs.Records.{holding, judged_of, name_of_code, register_of_code, Placed, Counted}
-use Rattle.records.specs.Parts.{counted, operand_meant, no_codes, operand_of_codes, held, OperandsKept, group_over, OperationWithin, below}
+use Rattle.records.specs.Parts.{counted, name_code, register_code, operand_meant, operand_of_codes, held, OperandsKept, group_over, OperationWithin, below}
 use Rattle.records.proofs.LawsTold.{clear_of, Tested}
 
 pub operand_limit : (n r : ℕ) (counts : Counts) {b : Bool} → b ≡ name_beyond (counted counts) (name_of_code n)
@@ -47,20 +44,6 @@ unfolding held
 held_any g test = any_meant test (take g.count g.operands)
 
 -- names and registers by their numbers
-
-abbrev pub name_code : OperandCodes → ℕ
-name_code c = c.name
-
-abbrev pub register_code : OperandCodes → ℕ
-register_code c = c.register
-
--- what `map` over an array gives, where each call gives `h` of its element
-pub mapped : {F A : Type 0} {g : Mut F (A × Unit {0}) ℕ} {f : F} {xs : List A} {ys : List ℕ} {n : ℕ} → IsMapOf g f xs ys n → length xs ≡ n → (h : A → ℕ) (d : A)
-    → ((p : F) (x : A) (y : ℕ) (q : F) → Called g p (x, tt) y q → y ≡ h x) → ys ≡ map h xs
-mapped {xs = xs} {ys = ys} m e h d call =
-    ext_get_or 0 ys (map h xs) (m.long ∙ sym (length-map xs h ∙ e)) λ k q.
-    let at = m.at k d 0 (omega (arith, m.long)) in
-    call at.0 (get_or xs k d) (get_or ys k 0) at.1 at.2 ∙ sym (get_or-map h xs k d 0 (omega (arith, m.long)))
 
 codes_names : (cs : List OperandCodes) → names (map operand_meant cs) ≡ map name_of_code (map name_code cs)
 unfolding names
@@ -102,23 +85,14 @@ unfolding repeats
 repeats_names [] = refl
 repeats_names (x ∷ l) = rw (any_name x l, repeats_names l)
 
-all_below : (limit count : ℕ) (cs : List OperandCodes) → ((k : ℕ) → (get_or cs k no_codes).name < limit)
-    → below limit (take count (map name_code cs)) ≡ take count (map name_code cs)
-unfolding below
-all_below limit zero cs h = refl
-all_below limit (suc count) [] h = refl
-all_below limit (suc count) (c ∷ cs) h = rw (lt-ltb c.name limit (h zero), all_below limit count cs (λ k. h (suc k)))
-
 module _ {us : List Operand} {g : Operands} (k : OperandsKept us g) where
-  held_names : repeats name_same (names (held g)) ≡ repeats ℕ_discrete (below 200000 (take g.count (map name_code g.operands)))
+  held_names : repeats name_same (names (held g)) ≡ repeats ℕ_discrete (map name_code (take g.count g.operands))
   unfolding held
-  held_names =
-      rw (codes_names (take g.count g.operands), all_below 200000 g.count g.operands k.small, take-map name_code g.count g.operands)
-      (repeats_names (map name_code (take g.count g.operands)))
+  held_names = rw (codes_names (take g.count g.operands)) (repeats_names (map name_code (take g.count g.operands)))
 
-  held_registers : repeats ℕ_discrete (allocated (held g)) ≡ repeats ℕ_discrete (below 100000 (take g.count (map register_code g.operands)))
+  held_registers : repeats ℕ_discrete (allocated (held g)) ≡ repeats ℕ_discrete (below 100000 (map register_code (take g.count g.operands)))
   unfolding held
-  held_registers = rw (codes_registers (take g.count g.operands), take-map register_code g.count g.operands)
+  held_registers = rw (codes_registers (take g.count g.operands))
 
   -- eight operands or fewer are all held
   pub held_all : g.count ≤ 8 → us ≡ held g
@@ -221,8 +195,8 @@ module _ {us ds : List Operand} {uses defs : Operands} (ku : OperandsKept us use
     all_defs : ds ≡ held defs
     all_defs = held_all kd (group_few counts defs (sym ed ∙ defs_pass inst gu gd b))
 
-    pub operation_tested : {ru rd rr lu ld : Bool} → ru ≡ repeats ℕ_discrete (below 200000 (take uses.count (map name_code uses.operands)))
-        → rd ≡ repeats ℕ_discrete (below 200000 (take defs.count (map name_code defs.operands))) → rr ≡ repeats ℕ_discrete (below 100000 (take defs.count (map register_code defs.operands)))
+    pub operation_tested : {ru rd rr lu ld : Bool} → ru ≡ repeats ℕ_discrete (map name_code (take uses.count uses.operands))
+        → rd ≡ repeats ℕ_discrete (map name_code (take defs.count defs.operands)) → rr ≡ repeats ℕ_discrete (below 100000 (map register_code (take defs.count defs.operands)))
         → lu ≡ any (λ u. elsewhere u.name u.reg) (held uses) → ld ≡ any (λ u. elsewhere u.name u.reg) (held defs)
         → Tested so (step_record (operation inst us ds)) place (ltb 65535 inst || (gu || gd)) (ru || (rd || rr)) (lu || ld) false
     unfolding out_of_order step_out_of_order real_elsewhere types_differ

@@ -62,6 +62,12 @@ ExactlyRead s at n None = exactly n (fields_behind s at) ≡ none
 abbrev pub operand_of_codes : ℕ → ℕ → Operand
 operand_of_codes n r = record { name = name_of_code n; reg = register_of_code r }
 
+abbrev pub name_code : OperandCodes → ℕ
+name_code c = c.name
+
+abbrev pub register_code : OperandCodes → ℕ
+register_code c = c.register
+
 abbrev pub operand_meant : OperandCodes → Operand
 operand_meant c = operand_of_codes c.name c.register
 

@@ -3,7 +3,7 @@
 
 #![tactic(auto)]
 
-ghost use Rattle.std.specs.Prelude.{◌≡◌, List, [], ◌∷◌, ◌++◌, ℕ, ◌+◌, ◌^◌, ◌≤◌, ◌<◌, eqb, leb, length, get_or, take, drop};
+ghost use Rattle.std.specs.Prelude.{◌≡◌, List, [], ◌∷◌, ◌++◌, map, ℕ, ◌+◌, ◌^◌, ◌≤◌, ◌<◌, eqb, leb, length, get_or, take, drop};
 ghost use Rattle.std.specs.List.{list_any};
 ghost use Rattle.std.proofs.Math.Option.{Option, none, some};
 ghost use Rattle.std.proofs.Math.Decide.{ℕ_discrete};
@@ -14,7 +14,7 @@ ghost use Rattle.paper.specs.Refusals.{function_record, typed_record, block_reco
 ghost use Rattle.layout.specs.Layout.{typed_words, operand_words};
 ghost use Rattle.fields.specs.Fields.{line_end, fields_behind};
 ghost use Rattle.records.specs.Records.{holding, judged_of, told, function_line, typed_line, block_line, pair_line, change_line, operation_line, safepoint_line, Placed, Behind, NumberBehind, NameBehind, AllocationBehind, name_of_code, register_of_code, CountsWithin, Counted, TypedBy, Least, Paired, FunctionClear, TypedClear, BlockClear, PairClear, ChangeClear, OperationClear, SafepointClear};
-ghost use Rattle.records.specs.Parts.{NumbersRead, ExactlyRead, no_codes, operand_meant, OperandBehind, held, Roomy, OperandsKept, OperandsRead, group_over, OperationWithin, below, name_word, register_word, mark_word, is_typed, word, Small, Listing, SlotsRead, counted, ChangeRead};
+ghost use Rattle.records.specs.Parts.{NumbersRead, ExactlyRead, no_codes, name_code, register_code, operand_meant, OperandBehind, held, Roomy, OperandsKept, OperandsRead, group_over, OperationWithin, below, name_word, register_word, mark_word, is_typed, word, Small, Listing, SlotsRead, counted, ChangeRead};
 
 use cells::MARK;
 use fields::Name;
@@ -29,8 +29,6 @@ use paper::{
 const REAL: u32 = 100000;
 
 pub const NO_ALLOCATION: u32 = 100000;
-// One more than the largest number of a name.
-const NAMES: u32 = 200000;
 
 const REAL_NAMES: u32 = cells::REAL_NAMES as u32;
 
@@ -508,12 +506,30 @@ fn operand_beyond(operand: OperandCodes, counts: Counts) -> bool
     name_beyond(operand.name, counts) | ((register < NO_ALLOCATION) & (counts.regs <= register))
 }
 
-// Does a code below the limit stand twice?
-fn repeated(codes: &[u32], limit: u32) -> bool
-    ensures { result ≡ repeats ℕ_discrete (below limit codes.now) }
+// Does a name stand twice?
+fn name_repeated(operands: &[OperandCodes]) -> bool
+    ensures { result ≡ repeats ℕ_discrete (map name_code operands.now) }
 {
-    for (i, &code) in codes.iter().enumerate() {
-        if (code < limit) && codes[i + 1..].contains(&code) {
+    for (i, operand) in operands.iter().enumerate() {
+        let name = operand.name;
+        if operands[i + 1..].iter().any(|other| other.name == name) {
+            return true;
+        }
+    }
+    false
+}
+
+// Does a register stand twice? Operands with none play no part.
+fn register_repeated(operands: &[OperandCodes]) -> bool
+    ensures { result ≡ repeats ℕ_discrete (below 100000 (map register_code operands.now)) }
+{
+    for (i, operand) in operands.iter().enumerate() {
+        let register = operand.register;
+        if (register < NO_ALLOCATION)
+            && operands[i + 1..]
+                .iter()
+                .any(|other| other.register == register)
+        {
             return true;
         }
     }
@@ -559,12 +575,9 @@ fn judge_operation(
     if beyond {
         return lowest(place, beyond, false, false, false);
     }
-    let used = uses.operands.map(|operand| operand.name);
-    let defined = defs.operands.map(|operand| operand.name);
-    let registers = defs.operands.map(|operand| operand.register);
-    let disorder = repeated(&used[..uses.count], NAMES)
-        | (repeated(&defined[..defs.count], NAMES)
-            | repeated(&registers[..defs.count], NO_ALLOCATION));
+    let used = &uses.operands[..uses.count];
+    let defined = &defs.operands[..defs.count];
+    let disorder = name_repeated(used) | (name_repeated(defined) | register_repeated(defined));
     let elsewhere = any_elsewhere(uses) | any_elsewhere(defs);
     lowest(place, beyond, disorder, elsewhere, false)
 }
