@@ -16,7 +16,7 @@ loop-cell-preserved c =
     let inv = c.loop-cell.invariant in
     let cells : List ℕ = take (c.args.from + c.args.n - c.args.from) (drop c.args.from c.args.words.now) in
     let cell : get_or cells c.loop-cell.cell-index 0 ≡ get_or c.args.words.now (c.args.from + c.loop-cell.cell-index) 0
-        = rw (part c.args.from c.args.n c.args.words.now) (getD_region _ _ _ _ (omega (arith, inv.1, c.loop-cell-test.true))) in
+    = rw (part c.args.from c.args.n c.args.words.now) (getD_region _ _ _ _ (omega (arith, inv.1, c.loop-cell-test.true))) in
     (omega arith, inv.1, row_then _ _ _ (omega (arith, inv.1, c.requires.0, c.loop-cell-test.true)) inv.2 (rw cell at c.write_cell-next.ensures.0))
 
 pub returns : goal.returns
