@@ -85,5 +85,8 @@ fn write_all<R: Read, W: Write>(input: &mut R, output: &mut W) -> io::Result<()>
 }
 
 fn main(rt: HostRuntime) {
-    frames::explain(&rt, "forms", write_all(&mut rt.stdin(), &mut rt.stdout()));
+    if let Err(error) = write_all(&mut rt.stdin(), &mut rt.stdout()) {
+        let place = frames::place(error.kind());
+        let _ = eprintln!(rt; "forms: {place}{error}");
+    }
 }

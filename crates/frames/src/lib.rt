@@ -2,14 +2,15 @@
 
 #![tactic(auto)]
 
-ghost use Rattle.std.specs.Prelude.{◌≡◌, OnOk, IfSome, ◌≤◌, length, take};
+ghost use Rattle.std.specs.Prelude.{◌≡◌, OnOk, IfSome, ◌≤◌, length, take, codes};
+ghost use Rattle.std.specs.declared.io.ErrorKind.TheVariants.{InvalidData};
 ghost use Rattle.std.specs.Io.KnownBytes.{Appends, Consumes};
 ghost use Rattle.lists.specs.Sets.{Wrote};
 ghost use Rattle.frames.specs.Frame.{longest_frame, longest_head, frame_head, framed, length_of, ByteTaken, LineLeft, FrameLeft, FrameTaken, EachAnswered};
 
 use fields::End;
 use std::error::Error;
-use std::io::{Eprint, ErrorKind, Read, Write};
+use std::io::{ErrorKind, Read, Write};
 use std::{fmt, io};
 
 const LONGEST_FRAME: usize = 99999;
@@ -126,16 +127,16 @@ pub fn each<R: Read, W: Write, F: FnMut(&mut W, &[u8]) -> io::Result<()>>(
     Ok(())
 }
 
-// Tells on standard error why a program over frames ended before its input, where it did.
-pub fn explain<P: Eprint>(rt: &P, program: &str, done: io::Result<()>) {
-    let Err(error) = done else {
-        return;
-    };
-    let place = match error.kind() {
+// Where a program over frames failed, by the kind of its error: a malformed frame is named by the error alone, all else befell
+// standard output.
+pub fn place(kind: ErrorKind) -> &'static str
+    ensures malformed { kind ≡ InvalidData → result.now ≡ codes "" }
+    ensures output { (kind ≡ InvalidData → ⊥) → result.now ≡ codes "standard output: " }
+{
+    match kind {
         ErrorKind::InvalidData => "",
         _ => "standard output: ",
-    };
-    let _ = eprintln!(rt; "{program}: {place}{error}");
+    }
 }
 
 // The first line of a frame of n bytes, at the start of `head`: its length.

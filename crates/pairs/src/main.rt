@@ -72,5 +72,8 @@ fn compare_all<R: Read, W: Write>(input: &mut R, output: &mut W) -> io::Result<(
 }
 
 fn main(rt: HostRuntime) {
-    frames::explain(&rt, "pairs", compare_all(&mut rt.stdin(), &mut rt.stdout()));
+    if let Err(error) = compare_all(&mut rt.stdin(), &mut rt.stdout()) {
+        let place = frames::place(error.kind());
+        let _ = eprintln!(rt; "pairs: {place}{error}");
+    }
 }

@@ -29,5 +29,8 @@ fn verify_all<R: Read, W: Write>(input: &mut R, output: &mut W) -> io::Result<()
 }
 
 fn main(rt: HostRuntime) {
-    frames::explain(&rt, "seals", verify_all(&mut rt.stdin(), &mut rt.stdout()));
+    if let Err(error) = verify_all(&mut rt.stdin(), &mut rt.stdout()) {
+        let place = frames::place(error.kind());
+        let _ = eprintln!(rt; "seals: {place}{error}");
+    }
 }

@@ -17,7 +17,7 @@ use Rattle.paper.specs.Cells.{named, overwritten, copied, house_changed, old_cha
 use Rattle.paper.specs.Steps.{State, get, put, copy, cell_at, store_at, location_of, everywhere, by_place, safepoint_row, old_define, house_define, old_effect, house_effect, effect, effects}
 use Rattle.paper.specs.declared.Rule.{Rule}
 use Rattle.paper.specs.declared.Rule.TheVariants.{Old, House}
-use Rattle.layout.specs.Layout.{defs_from}
+use Rattle.layout.specs.Layout.{defs_from, row_words, row_widths}
 use Rattle.cells.specs.Packed.{name_of_word, marked, cell_of}
 use Rattle.cells.specs.States.{state_of}
 use Rattle.cells.specs.Laws.{made, state_cell, state_store}
@@ -26,6 +26,15 @@ use Rattle.loaded.specs.declared.CopyKind.TheVariants.{Spill, Reload, Move}
 use Rattle.loaded.specs.declared.CopyRows.{CopyRows}
 use Rattle.loaded.specs.Actions.{rows_of, copy_step, no_register, register_of, operand_of, operands, step_of, action_at, steps_at}
 use Rattle.steps.specs.Defs.{cleared_of, define_word, define_words}
+
+-- the rows of a copy are rows of a state, and its numbers cells of them
+pub copy_room : {rows : CopyRows} (kind : CopyKind) (into from : ℕ) → rows ≡ rows_of kind
+    → into < get_or row_widths (rows_of kind).into 0 → from < get_or row_widths (rows_of kind).from 0
+    → (rows.into < 2) × (into < row_words) × (rows.from < 2) × (from < row_words)
+unfolding rows_of
+copy_room Spill into from e a b = rw e (omega arith, omega arith, omega arith, omega arith)
+copy_room Reload into from e a b = rw e (omega arith, omega arith, omega arith, omega arith)
+copy_room Move into from e a b = rw e (omega arith, omega arith, omega arith, omega arith)
 
 -- one def: t is what the rule leaves of the state before the register is written
 pub defined : (counts : List ℕ) (rule : Rule) (w r : ℕ) (S : State) (t : List (List ℕ)) → r ≡ w / 1024 → (w / 1024 ≡ no_register → ⊥)

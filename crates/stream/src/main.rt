@@ -95,5 +95,8 @@ fn answer_all<R: Read, W: Write>(input: &mut R, output: &mut W) -> io::Result<()
 }
 
 fn main(rt: HostRuntime) {
-    frames::explain(&rt, "stream", answer_all(&mut rt.stdin(), &mut rt.stdout()));
+    if let Err(error) = answer_all(&mut rt.stdin(), &mut rt.stdout()) {
+        let place = frames::place(error.kind());
+        let _ = eprintln!(rt; "stream: {place}{error}");
+    }
 }

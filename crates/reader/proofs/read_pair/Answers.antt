@@ -1,7 +1,7 @@
 -- Each answer is told apart by a law of `Laws`.
 use Rattle.std.proofs.Common.{sym, ◌∙◌}
 use Rattle.fields.specs.Told.{number_says, number_refused}
-use Rattle.reader.proofs.Laws.{no_first, no_second, bad_second, one_more, both, no_tab}
+use Rattle.reader.proofs.Laws.{no_first, no_second, bad_second, one_more, both, feed_no_tab}
 use Rattle.reader.proofs.read_pair.Goals as goal
 
 pub returns-in_err-a : goal.returns-in_err-a
@@ -13,7 +13,7 @@ returns-in_err-ends_from c =
 
 pub returns-in_default : goal.returns-in_default
 returns-in_default c =
-    sym (no_second (number_says (sym c.in_ok-a.ensures.value)) (no_tab c.args.s.now c.in_ok-a.i (rw c.in_default.is at c.in_ok-ends_from.ensures.within).1))
+    sym (no_second (number_says (sym c.in_ok-a.ensures.value)) (feed_no_tab c.args.s.now c.in_ok-a.i (rw c.in_default.is at c.in_ok-ends_from.ensures.within).1))
 
 pub returns-in_err-b : goal.returns-in_err-b
 returns-in_err-b c =
@@ -33,4 +33,4 @@ returns-in-Tab-end c =
 pub returns-in-LineFeed : goal.returns-in-LineFeed
 returns-in-LineFeed c =
     sym (both (number_says (sym c.in_ok-a.ensures.value)) (rw c.in-Tab.is at c.in_ok-ends_from.ensures.within).1
-    (number_says (sym c.in_ok-b.ensures.value)) (no_tab c.args.s.now c.in_ok-b.j (rw c.in-LineFeed.is at c.in-Some.ensures.within).1))
+    (number_says (sym c.in_ok-b.ensures.value)) (feed_no_tab c.args.s.now c.in_ok-b.j (rw c.in-LineFeed.is at c.in-Some.ensures.within).1))

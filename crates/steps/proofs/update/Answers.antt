@@ -3,8 +3,13 @@
 use mathlib.Core.Path.{◌∙◌}
 use native.Mathlib.Omega.{arith}
 use Rattle.loaded.specs.Actions.{step_of}
-use Rattle.steps.proofs.LawsEffects.{copy_effect, safepoint_effect, operation_effect}
+use Rattle.steps.proofs.LawsEffects.{copy_room, copy_effect, safepoint_effect, operation_effect}
 use Rattle.steps.proofs.update.Goals as goal
+
+pub copy-requires : goal.copy-requires
+copy-requires c =
+    let r = rw c.in-Copy.is at c.requires in
+    copy_room _ _ _ c.rows_of-rows.ensures r.0 r.1
 
 pub returns-in-Copy : goal.returns-in-Copy
 unfolding step_of
