@@ -10,8 +10,11 @@ ghost use Rattle.frames.specs.Frame.{longest_frame, longest_head, frame_head, fr
 
 use fields::End;
 use std::error::Error;
-use std::io::{ErrorKind, Read, Write};
+use std::io::{Eprint, ErrorKind, Read, Write};
 use std::{fmt, io};
+
+#[cfg(test)]
+mod tests;
 
 const LONGEST_FRAME: usize = 99999;
 
@@ -136,6 +139,14 @@ pub fn place(kind: ErrorKind) -> &'static str
     match kind {
         ErrorKind::InvalidData => "",
         _ => "standard output: ",
+    }
+}
+
+// Tells on standard error why a program over frames ended before its input, where it did.
+pub fn explain<P: Eprint>(rt: &P, program: &str, done: io::Result<()>) {
+    if let Err(error) = done {
+        let place = place(error.kind());
+        let _ = eprintln!(rt; "{program}: {place}{error}");
     }
 }
 
